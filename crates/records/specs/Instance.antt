@@ -1,0 +1,9 @@
+-- What a record means.
+use mathlib.Core.List.{List}
+use Prim.Native.Nat.{ℕ}
+
+-- one instance of a statement: its operator, the cell that it writes, and the cells that it reads, in order
+pub record Instance : Type 0 where
+  pub operator : ℕ
+  pub written : ℕ
+  pub reads : List ℕ

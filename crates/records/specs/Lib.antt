@@ -1,0 +1,4 @@
+pub mod Instance
+pub mod Meaning
+pub mod Making
+pub mod Text
