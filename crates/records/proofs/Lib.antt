@@ -1,2 +1,3 @@
 mod Texts
-mod Parts
+pub mod Made
+pub mod Parts

@@ -25,6 +25,6 @@ abbrev pub judged-row : Row → Result Instance RecordFault
 judged-row r = judged (r .count) (row-instance r)
 
 -- an answer by what its record means
-abbrev pub meant : Result Record RecordFault → Result Instance RecordFault
+abbrev pub meant : {E : Type 0} → Result Record E → Result Instance E
 meant (Ok r) = Ok (instance r)
 meant (Err e) = Err e

@@ -1,0 +1,5 @@
+pub mod Faults
+pub mod Layouts
+pub mod Spelling
+pub mod Reading
+pub mod Reader

@@ -1,0 +1,46 @@
+// Why bytes form no record, and why a record cannot be written.
+ghost use mathlib.Core.Path.{_≡_};
+ghost use Rattle.trace.specs.Faults.{number-of, place-of};
+
+// Each at the place of the record's map byte.
+#[derive(Clone, Copy, Debug, PartialEq, Eq)]
+pub enum ReadFault {
+    // Bit 7 of the map byte stands.
+    HighBit { place: usize },
+    // The read bits have a gap.
+    Gap { place: usize },
+    // There is neither a written cell nor a read.
+    NoCell { place: usize },
+    // The record runs past the end of the trace.
+    PastEnd { place: usize },
+    // The operator is over 15.
+    Operator { place: usize },
+}
+
+impl ReadFault {
+    // The number of the refusal.
+    pub fn number(self) -> u8
+        ensures { λ r. ⌜ r ≡ number-of self ⌝ }
+    {
+        match self {
+            ReadFault::HighBit { .. } => 41,
+            ReadFault::Gap { .. } => 42,
+            ReadFault::NoCell { .. } => 43,
+            ReadFault::PastEnd { .. } => 44,
+            ReadFault::Operator { .. } => 45,
+        }
+    }
+
+    // Where the record begins that is refused.
+    pub fn place(self) -> usize
+        ensures { λ r. ⌜ r ≡ place-of self ⌝ }
+    {
+        match self {
+            ReadFault::HighBit { place } => place,
+            ReadFault::Gap { place } => place,
+            ReadFault::NoCell { place } => place,
+            ReadFault::PastEnd { place } => place,
+            ReadFault::Operator { place } => place,
+        }
+    }
+}
