@@ -59,7 +59,7 @@ module _ (s t : List ℕ) (i : Instance) (h : Spells s i) where
   count : cells-of (h .fields) ≡ length (if-set (h .fields .written) (i .written) ++ i .reads)
   count = count-is (h .fields .written) (i .written) (i .reads) (h .fields .reads) (h .reads)
 
-  size-is : length s ≡ size-of (h .fields)
+  pub size-is : length s ≡ size-of (h .fields)
   size-is =
       omega (
         arith,

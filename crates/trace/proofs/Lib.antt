@@ -4,5 +4,7 @@ mod Exact
 mod Found
 mod Held
 mod Places
+mod Puts
+mod Short
 mod Sound
 mod Steps

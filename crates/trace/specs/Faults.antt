@@ -2,6 +2,8 @@
 use Prim.Native.Nat.{ℕ}
 use Rattle.trace.specs.declared.fault.ReadFault.{ReadFault}
 use Rattle.trace.specs.declared.fault.ReadFault.the-variants.{HighBit, Gap, NoCell, PastEnd, Operator}
+use Rattle.trace.specs.declared.fault.WriteFault.{WriteFault}
+use Rattle.trace.specs.declared.fault.WriteFault.the-variants.{NoRoom}
 
 -- the number of each refusal
 abbrev pub number-of : ReadFault → ℕ
@@ -18,3 +20,7 @@ place-of (Gap p) = p
 place-of (NoCell p) = p
 place-of (PastEnd p) = p
 place-of (Operator p) = p
+
+-- the number of the refusal to write
+abbrev pub write-number-of : WriteFault → ℕ
+write-number-of (NoRoom n) = 47

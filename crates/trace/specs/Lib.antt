@@ -3,3 +3,4 @@ pub mod Layouts
 pub mod Spelling
 pub mod Reading
 pub mod Reader
+pub mod Writing

@@ -1,6 +1,6 @@
 // Why bytes form no record, and why a record cannot be written.
 ghost use mathlib.Core.Path.{_≡_};
-ghost use Rattle.trace.specs.Faults.{number-of, place-of};
+ghost use Rattle.trace.specs.Faults.{number-of, place-of, write-number-of};
 
 // Each at the place of the record's map byte.
 #[derive(Clone, Copy, Debug, PartialEq, Eq)]
@@ -41,6 +41,23 @@ impl ReadFault {
             ReadFault::NoCell { place } => place,
             ReadFault::PastEnd { place } => place,
             ReadFault::Operator { place } => place,
+        }
+    }
+}
+
+#[derive(Clone, Copy, Debug, PartialEq, Eq)]
+pub enum WriteFault {
+    // Fewer bytes are left than the record takes, which is `size`.
+    NoRoom { size: usize },
+}
+
+impl WriteFault {
+    // The number of the refusal.
+    pub fn number(self) -> u8
+        ensures { λ r. ⌜ r ≡ write-number-of self ⌝ }
+    {
+        match self {
+            WriteFault::NoRoom { .. } => 47,
         }
     }
 }

@@ -83,7 +83,7 @@ fn read_cell(bytes: &[u8], place: usize) -> u16
     requires { ⌜ place + 1 < length (now bytes) ⌝ }
     ensures { λ r. ⌜ r ≡ cell-at (now (bytes .entry)) place ⌝ }
 {
-    u16::from(bytes[place]) + 256 * u16::from(bytes[place + 1])
+    u16::from_le_bytes([bytes[place], bytes[place + 1]])
 }
 
 // The cells from `place` on.
