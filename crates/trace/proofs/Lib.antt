@@ -8,3 +8,4 @@ mod Puts
 mod Short
 mod Sound
 mod Steps
+mod Walks

@@ -22,7 +22,7 @@ use Rattle.trace.specs.declared.fault.ReadFault.{ReadFault}
 passed : (c : Cursor) (n : ℕ) → take (c .place + n - c .place) (left c) ≡ take n (left c)
 passed c n = let e : c .place + n - c .place ≡ n = omega arith in ap (λ (k : ℕ). take k (left c)) e
 
-beyond : (c : Cursor) (n : ℕ) → drop (c .place + n) (c .bytes) ≡ drop n (left c)
+pub beyond : (c : Cursor) (n : ℕ) → drop (c .place + n) (c .bytes) ≡ drop n (left c)
 beyond c n = sym (drop-drop n (c .place) (c .bytes))
 
 err-is-some : (f : ReadFault) (x : Piece) → _≡_ {A = Result (Option Piece) ReadFault} (Err f) (Ok (Some x)) → ⊥

@@ -1,6 +1,9 @@
 // Why bytes form no record, and why a record cannot be written.
 ghost use mathlib.Core.Path.{_≡_};
 ghost use Rattle.trace.specs.Faults.{number-of, place-of, write-number-of};
+ghost use Rattle.trace.specs.declared.fault.TraceFault.the-variants.{Read, NoMemory};
+use std::alloc::AllocError;
+use std::alloc::Refused;
 
 // Each at the place of the record's map byte.
 #[derive(Clone, Copy, Debug, PartialEq, Eq)]
@@ -59,5 +62,38 @@ impl WriteFault {
         match self {
             WriteFault::NoRoom { .. } => 47,
         }
+    }
+}
+
+// Why a whole trace cannot be read.
+#[derive(Clone, Copy, Debug, PartialEq, Eq)]
+pub enum TraceFault {
+    // Some bytes form no record.
+    Read(ReadFault),
+    // There is no memory for its records.
+    NoMemory,
+}
+
+pub impl From<ReadFault> for TraceFault as TraceFaultFromRead {
+    ghost converts = { λ f r. r ≡ Read f };
+
+    fn from(fault: ReadFault) -> TraceFault {
+        TraceFault::Read(fault)
+    }
+}
+
+pub impl From<AllocError> for TraceFault as TraceFaultFromAlloc {
+    ghost converts = { λ _ r. r ≡ NoMemory };
+
+    fn from(_: AllocError) -> TraceFault {
+        TraceFault::NoMemory
+    }
+}
+
+pub impl<T: Drop> From<Refused<T>> for TraceFault as TraceFaultFromRefused {
+    ghost converts = { λ _ r. r ≡ NoMemory };
+
+    fn from(_: Refused<T>) -> TraceFault {
+        TraceFault::NoMemory
     }
 }
