@@ -7,5 +7,5 @@ mod Places
 mod Puts
 mod Short
 mod Sound
-mod Steps
-mod Walks
+pub mod Steps
+pub mod Walks
