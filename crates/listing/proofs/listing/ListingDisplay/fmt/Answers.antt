@@ -42,10 +42,10 @@ loop-next-again g c =
     let at = cursor (c .loop-next .reader) in
     let to = cursor (c .next-record .last .self) in
     let new = instance (c .in-Some .«record») in
-    let go = stepped-on at to _ (rw (c .in-Some .is) at (c .in-Ok .ensures tt .answer)) (c .next-record .ensures .after) in
-    ( same-bytes at to (c .next-record .ensures .after) ∙ c .loop-next .inv .0
-    , omega (arith, go .1, c .loop-next .inv .1)
-    , λ p. let (bs, put, eq) = c .loop-next .inv .2 p in
-      let more = c .in-Continue-write .ensures tt .shows (put .plain) refl in
-      (bs ++ line (c .loop-next .count + 1) new, put-more (g .W·Write .took) _ _ _ _ _ put more, told-more bs _ _ (c .loop-next .count) new (rest-of at) (rest-of to) (go .0) eq refl)
+    let go = stepped-on at to _ (rw (c .in-Some .is) at (c .in-Ok .ensures tt .answer)) (c .next-record .ensures .after) in (
+      same-bytes at to (c .next-record .ensures .after) ∙ c .loop-next .inv .0,
+      omega (arith, go .1, c .loop-next .inv .1),
+      λ p. let (bs, put, eq) = c .loop-next .inv .2 p in
+          let more = c .in-Continue-write .ensures tt .shows (put .plain) refl in
+          (bs ++ line (c .loop-next .count + 1) new, put-more (g .W·Write .took) _ _ _ _ _ put more, told-more bs _ _ (c .loop-next .count) new (rest-of at) (rest-of to) (go .0) eq refl),
     )
