@@ -6,8 +6,7 @@ use lib.Chars.{codes}
 use lib.ListN.{length, take, getD}
 use Rattle.std.proofs.shelf.Lists.{take-more}
 use Rattle.std.specs.Written.{decimal}
-use Rattle.records.specs.Instance.{Instance}
-use Rattle.records.specs.Text.{cells-text, text}
+use Rattle.records.specs.Text.{cells-text}
 
 cells-append : (xs ys : List ℕ) → cells-text (xs ++ ys) ≡ cells-text xs ++ cells-text ys
 cells-append [] ys = refl
@@ -21,11 +20,3 @@ cells-more xs i h =
     (ap cells-text (take-more xs i 0 h)
     ∙ (cells-append (take i xs) (getD xs i 0 ∷ [])
     ∙ ap (λ (l : List ℕ). cells-text (take i xs) ++ l) (append-nil (codes " " ++ decimal (getD xs i 0)))))
-
-regroup : (a b c d e f : List ℕ) → (a ++ (b ++ (c ++ (d ++ e)))) ++ f ≡ a ++ (b ++ (c ++ (d ++ (e ++ f))))
-regroup a b c d e f = simp append-assoc
-
--- the text of an instance, as it is written: its head, and then its cells
-pub text-from : (i : Instance) (o w : ℕ) (rs : List ℕ) → o ≡ i .operator → w ≡ i .written → rs ≡ i .reads → (codes "op " ++ (decimal o ++ (codes ", " ++ (decimal w ++ codes " <-")))) ++ cells-text rs ≡ text i
-text-from i o w rs p q r =
-    rw (p, q, r) (regroup (codes "op ") (decimal (i .operator)) (codes ", ") (decimal (i .written)) (codes " <-") (cells-text (i .reads)))

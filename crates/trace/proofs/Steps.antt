@@ -1,4 +1,4 @@
--- A reader's step is faithful to what is spelled.
+-- A reader's step finds exactly what is spelled.
 use mathlib.Core.Path.{_≡_, refl, sym, ap, subst, _∙_}
 use mathlib.Core.List.{List, [], _∷_, _++_}
 use Prim.Native.Nat.{ℕ, _+_, _-_, _≤_}
@@ -13,7 +13,7 @@ use Rattle.records.specs.Instance.{Instance}
 use Rattle.trace.proofs.Exact.{spelled-read}
 use Rattle.trace.proofs.Places.{fault-place}
 use Rattle.trace.proofs.Sound.{none-left, read-spelled}
-use Rattle.trace.specs.Reader.{Cursor, Faithful, after, answer, left, next, spelling, stepped}
+use Rattle.trace.specs.Reader.{Cursor, Finds, after, answer, left, next, spelling, stepped}
 use Rattle.trace.specs.Reading.{Piece, read-at}
 use Rattle.trace.specs.Spelling.{Spells}
 use Rattle.trace.specs.declared.fault.ReadFault.{ReadFault}
@@ -28,7 +28,7 @@ beyond c n = sym (drop-drop n (c .place) (c .bytes))
 err-is-some : (f : ReadFault) (x : Piece) → _≡_ {A = Result (Option Piece) ReadFault} (Err f) (Ok (Some x)) → ⊥
 err-is-some f x e = let z : _≡_ {A = ℕ} 0 1 = cc in omega arith
 
-step-by : (c : Cursor) (r : Result (Option Piece) ReadFault) → read-at (c .place) (left c) ≡ r → Faithful c (answer r) (stepped c r)
+step-by : (c : Cursor) (r : Result (Option Piece) ReadFault) → read-at (c .place) (left c) ≡ r → Finds c (answer r) (stepped c r)
 step-by c (Ok None) e = (none-left (c .place) (left c) e, refl)
 step-by c (Ok (Some x)) e = (
   subst (λ (l : List ℕ). Spells l (x .meaning)) (sym (passed c (x .size))) (read-spelled (c .place) (left c) x e .0),
@@ -40,8 +40,8 @@ step-by c (Err f) e = (
   refl,
 )
 
-pub step-faithful : (c : Cursor) → Faithful c (next c) (after c)
-step-faithful c = step-by c (read-at (c .place) (left c)) refl
+pub step-finds : (c : Cursor) → Finds c (next c) (after c)
+step-finds c = step-by c (read-at (c .place) (left c)) refl
 
 -- a step stays within the trace
 step-within-by : (c : Cursor) (r : Result (Option Piece) ReadFault) → c .place ≤ length (c .bytes) → read-at (c .place) (left c) ≡ r → (stepped c r .bytes ≡ c .bytes) × (c .place ≤ stepped c r .place) × (stepped c r .place ≤ length (c .bytes))
@@ -56,9 +56,9 @@ step-within c h = step-within-by c (read-at (c .place) (left c)) h refl
 pub record Step (c : Cursor) (r : Result (Option Instance) ReadFault) (d : Cursor) : Type 0 where
   pub answer : r ≡ next c
   pub after : d ≡ after c
-  pub faithful : Faithful c r d
+  pub finds : Finds c r d
 
 pub step-is : (c : Cursor) (x : Result (Option Piece) ReadFault) → x ≡ read-at (c .place) (take (length (c .bytes) - c .place) (left c)) → Step c (answer x) (stepped c x)
 step-is c x e =
     let is : x ≡ read-at (c .place) (left c) = e ∙ ap (read-at (c .place)) (take-rest (c .bytes) (c .place)) in
-    record { answer = ap answer is; after = ap (stepped c) is; faithful = step-by c x (sym is) }
+    record { answer = ap answer is; after = ap (stepped c) is; finds = step-by c x (sym is) }

@@ -1,5 +1,5 @@
 -- Reading record by record finds the records that the trace spells.
-use mathlib.Core.Path.{_≡_, refl, sym, ap, _∙_}
+use mathlib.Core.Path.{_≡_, refl, sym, ap, subst, _∙_}
 use mathlib.Core.List.{List, [], _∷_, _++_, append-assoc, append-nil}
 use Prim.Native.Nat.{ℕ, zero, suc, _+_, _-_, _<_, _≤_}
 use native.Mathlib.Nat.{add-zero, zero-add}
@@ -117,6 +117,10 @@ finds-all bs = record {
   spelled = λ is. walk-spelled is (length bs) 0 bs (omega arith);
   ends = ends-at bs (whole bs .taken) (whole bs .stop) (walk-ends (length bs) 0 bs (omega arith));
 }
+
+-- where a walk that is known ends
+pub ends-as : (bs : List ℕ) (w : Walk) → whole bs ≡ w → Ends bs (w .taken) (w .stop)
+ends-as bs w e = subst (λ (x : Walk). Ends bs (x .taken) (x .stop)) e (finds-all bs .ends)
 
 -- what a reader finds, by its next step
 abbrev pub Goes-on : Cursor → Result (Option Instance) ReadFault → Cursor → Type 0

@@ -10,6 +10,7 @@ pub record Fields : Type 0 where
   pub written : Bool
   pub reads : ℕ
 
+-- the fields of a layout in memory
 abbrev pub fields : Layout → Fields
 fields y = record { operator = y .operator; written = y .written; reads = y .reads }
 

@@ -23,6 +23,7 @@ pub record Cursor : Type 0 where
   pub start : ℕ
   pub place : ℕ
 
+-- where this reader stands
 abbrev pub cursor : TraceReader → Cursor
 cursor r = record { bytes = now (r .bytes); start = r .start; place = r .place }
 
@@ -62,7 +63,7 @@ next c = answer (read-at (c .place) (left c))
 
 -- a step finds exactly what is spelled: none only at the end, a record whose spelling it passes, and a refusal only
 -- where no record is spelled
-abbrev pub Faithful : Cursor → Result (Option Instance) ReadFault → Cursor → Type 0
-Faithful c (Ok None) d = (left c ≡ []) × (d ≡ c)
-Faithful c (Ok (Some i)) d = Spells (spelling d) i × (left c ≡ spelling d ++ left d)
-Faithful c (Err f) d = (place-of f ≡ c .place) × ((s t : List ℕ) (i : Instance) → left c ≡ s ++ t → Spells s i → ⊥) × (d ≡ c)
+abbrev pub Finds : Cursor → Result (Option Instance) ReadFault → Cursor → Type 0
+Finds c (Ok None) d = (left c ≡ []) × (d ≡ c)
+Finds c (Ok (Some i)) d = Spells (spelling d) i × (left c ≡ spelling d ++ left d)
+Finds c (Err f) d = (place-of f ≡ c .place) × ((s t : List ℕ) (i : Instance) → left c ≡ s ++ t → Spells s i → ⊥) × (d ≡ c)

@@ -38,6 +38,7 @@ without-gap p b (Some n) = with-cell p (record { operator = eqb (b % 2) 1; writt
 abbrev pub layout-at : ℕ → ℕ → Result Fields ReadFault
 layout-at p b = cond (ltb 127 b) (Err (HighBit p)) (without-gap p b (reads-in (b / 4)))
 
+-- an answer by the fields of its layout
 abbrev pub laid-out : Result Layout ReadFault → Result Fields ReadFault
 laid-out (Ok y) = Ok (fields y)
 laid-out (Err e) = Err e

@@ -55,7 +55,12 @@ pub record Finds-all (bs : List ℕ) : Type 0 where
   pub spelled : (is : List Instance) → Spell-all bs is → whole bs ≡ record { taken = is; stop = None }
   pub ends : Ends bs (whole bs .taken) (whole bs .stop)
 
--- a refusal to read a whole trace
+-- a refusal is the one that ended the walk; want of memory may come at any time
 abbrev pub Refused : TraceFault → Walk → Type 0
 Refused (Read f) w = w .stop ≡ Some f
 Refused NoMemory w = Unit {0}
+
+-- a refusal is that of the bytes which follow the records of some front of the trace
+abbrev pub Stops : TraceFault → List ℕ → Type 0
+Stops (Read f) bs = (is : List Instance) × Ends bs is (Some f)
+Stops NoMemory bs = Unit {0}

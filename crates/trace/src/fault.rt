@@ -48,7 +48,7 @@ impl ReadFault {
     }
 }
 
-#[derive(Clone, Copy, Debug, PartialEq, Eq)]
+#[derive(Clone, Copy, Debug)]
 pub enum WriteFault {
     // Fewer bytes are left than the record takes, which is `size`.
     NoRoom { size: usize },

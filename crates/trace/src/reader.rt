@@ -3,7 +3,8 @@ ghost use Prim.Native.Nat.{_≤_};
 ghost use denote.Ref.{now};
 ghost use lib.ListN.{length};
 
-mod methods;
+mod parts;
+mod steps;
 
 // The bytes of a trace and a place in them, up to which records have been read. The last of these begins at `start`.
 #[derive(Clone, Copy, Debug)]

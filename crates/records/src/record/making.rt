@@ -1,4 +1,4 @@
-// Records from their parts, and from rows.
+// Records from their parts and from rows, and back to rows.
 ghost use mathlib.Core.Path.{_≡_};
 ghost use lib.ListN.{length};
 ghost use Rattle.records.specs.Instance.{Instance};
@@ -46,5 +46,12 @@ impl Record {
             return Err(RecordFault::Reads);
         }
         Ok(Record { row })
+    }
+
+    // The row that the record lies in.
+    pub fn to_row(&self) -> Row
+        ensures { λ r. ⌜ r ≡ now (self .entry) .row ⌝ }
+    {
+        self.row
     }
 }

@@ -2,7 +2,6 @@
 ghost use mathlib.Core.Path.{_≡_};
 ghost use Rattle.records.specs.Meaning.{instance};
 use crate::record::Record;
-use crate::row::Row;
 
 impl Record {
     // The operator, from 0 to 15.
@@ -25,12 +24,5 @@ impl Record {
     {
         let count = self.row.count as usize;
         &self.row.reads[0..count]
-    }
-
-    // The row that the record lies in.
-    pub fn to_row(&self) -> Row
-        ensures { λ r. ⌜ r ≡ now (self .entry) .row ⌝ }
-    {
-        self.row
     }
 }

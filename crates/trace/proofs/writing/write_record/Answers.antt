@@ -16,7 +16,7 @@ returns-then-out-size c =
     let i = instance (c .args .«record» .now) in
     let h = recordable (c .args .«record» .now) in
     let size : c .size-size .result ≡ length (shortest i) = c .size-size .ensures ∙ (ap size-of (c .shortest-layout .ensures) ∙ sym (short-size i h)) in
-    let r = no-room i (c .args .out .now) (c .size-size .result) size (c .if-out-size .taken) in
+    let r = no-room i (c .args .out .now) (c .size-size .result) size (omega arith) in
     record { answer = r .0; after = r .1; shortest = is-shortest i h; reads-back = reads-back i h }
 
 pub returns : need.returns
@@ -24,7 +24,7 @@ returns c =
     let i = instance (c .args .«record» .now) in
     let h = recordable (c .args .«record» .now) in
     let size : c .size-size .result ≡ length (shortest i) = c .size-size .ensures ∙ (ap size-of (c .shortest-layout .ensures) ∙ sym (short-size i h)) in
-    let r = room i (c .args .out .now) (c .size-size .result) size (c .if-out-size .left) in
+    let r = room i (c .args .out .now) (c .size-size .result) size (omega arith) in
     let y = fields (c .shortest-layout .result) in
     let is : y ≡ shortest-fields i = c .shortest-layout .ensures in
     let o : c .from .result ≡ bit (y .operator) = search needs in

@@ -14,12 +14,12 @@ pub returns-in-Break-front : need.returns-in-Break-front
 returns-in-Break-front c =
     let p = err-from-errBy (c .from-residual .result) (c .from-residual .ensures .1) in
     let s = step-is (cursor (c .args .self .now)) (Err _) (c .in-Break-front .ensures tt) in
-    rw (p .1, p .2) (record { answer = s .answer; after = s .after; faithful = s .faithful; unambiguous = unambiguous })
+    rw (p .1, p .2) (record { answer = s .answer; after = s .after; finds = s .finds; unambiguous = unambiguous })
 
 pub returns-in-rest : need.returns-in-rest
 returns-in-rest c =
     let s = step-is (cursor (c .args .self .now)) (Ok None) (rw (c .in-rest .is) at (c .in-Continue-front .ensures tt)) in
-    record { answer = s .answer; after = s .after; faithful = s .faithful; unambiguous = unambiguous }
+    record { answer = s .answer; after = s .after; finds = s .finds; unambiguous = unambiguous }
 
 pub ghost-self : need.ghost-self
 ghost-self c =
@@ -34,4 +34,4 @@ pub returns : need.returns
 returns c =
     let x = c .in-Some .front in
     let s = step-is (cursor (c .args .self .now)) (Ok (Some (record { meaning = instance (x .found); size = x .size }))) (rw (c .in-Some .is) at (c .in-Continue-front .ensures tt)) in
-    record { answer = s .answer; after = s .after; faithful = s .faithful; unambiguous = unambiguous }
+    record { answer = s .answer; after = s .after; finds = s .finds; unambiguous = unambiguous }
