@@ -1,4 +1,4 @@
-// Why a trace is not listed to its end.
+//! The refusals of listing a trace.
 ghost use mathlib.Core.Path.{_≡_};
 ghost use Rattle.std.specs.declared.option.Option.the-variants.{Some};
 ghost use Rattle.listing.specs.Lines.{number-of, place-of, refused-text};
@@ -6,19 +6,20 @@ use std::fmt;
 use trace::ReadFault;
 use trace::fault::ReadFaultDebug;
 
-// The most bytes that a trace has.
+/// The most bytes that a trace has.
 pub const MOST_BYTES: usize = 65536;
 
+/// Why a trace is not listed to its end.
 #[derive(Clone, Copy, Debug)]
 pub enum ListFault {
-    // The trace has more than `MOST_BYTES` bytes.
+    /// The trace has more than `MOST_BYTES` bytes.
     TooLong,
-    // Some bytes form no record.
+    /// Some bytes form no record.
     Read(ReadFault),
 }
 
 impl ListFault {
-    // The number of the refusal.
+    /// The number of the refusal.
     pub fn number(self) -> u8
         ensures { λ r. ⌜ r ≡ number-of self ⌝ }
     {
@@ -28,7 +29,7 @@ impl ListFault {
         }
     }
 
-    // The place in the trace at which it is refused.
+    /// The place in the trace at which it is refused.
     pub fn place(self) -> usize
         ensures { λ r. ⌜ r ≡ place-of self ⌝ }
     {

@@ -1,4 +1,4 @@
-// The text of a whole trace: a line for each record, and a last line with their number or the refusal.
+//! The text of a whole trace: a line for each record, and a last line with their number or the refusal.
 pub mod fault;
 pub mod listing;
 

@@ -1,4 +1,4 @@
-// A trace, listed record by record.
+//! A trace, listed record by record.
 ghost use mathlib.Core.Path.{_≡_};
 ghost use Rattle.std.specs.declared.option.Option.the-variants.{Some};
 ghost use Rattle.listing.specs.Lines.{Lists, listing};
@@ -9,15 +9,15 @@ use records::record::RecordDisplay;
 use std::fmt;
 use trace::TraceReader;
 
-// The bytes of a trace. Its text is a line for each record, as `1: op 1, 5 <- 2 4`, and then `N records`, or
-// the refusal of the bytes that come next.
+/// The bytes of a trace. Its text is a line for each record, as `1: op 1, 5 <- 2 4`, and then `N records`, or
+/// the refusal of the bytes that come next.
 #[derive(Clone, Copy, Debug)]
 pub struct Listing<'a> {
     bytes: &'a [u8],
 }
 
 impl<'a> Listing<'a> {
-    // The listing of these bytes.
+    /// The listing of these bytes.
     pub fn new(bytes: &'a [u8]) -> Listing<'a>
         ensures bytes { λ r. ⌜ now (r .bytes) ≡ now (bytes .entry) ⌝ }
         ensures lists { λ _. ⌜ Lists (now (bytes .entry)) ⌝ }

@@ -1,4 +1,4 @@
-// A record: a row that passed its tests.
+//! A record: a row that passed its tests.
 ghost use Prim.Native.Nat.{_≤_};
 use crate::row::Row;
 use crate::row::RowDebug;
@@ -11,7 +11,7 @@ mod text;
 pub use equality::RecordPartialEq;
 pub use text::RecordDisplay;
 
-// Its operator is at most 15, and it has at most five reads.
+/// Its operator is at most 15, and it has at most five reads.
 #[derive(Clone, Copy, Debug)]
 pub struct Record {
     row: Row,

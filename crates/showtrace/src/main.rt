@@ -1,4 +1,4 @@
-// Prints what is in the trace `order.bin` of the current folder.
+//! Prints what is in the trace `order.bin` of the current folder.
 use listing::Listing;
 use listing::fault::MOST_BYTES;
 use listing::listing::ListingDisplay;
@@ -8,10 +8,10 @@ use std::io;
 use std::io::ErrorKind;
 use std::io::Read;
 
-// Where the trace lies.
+/// Where the trace lies.
 const TRACE: &str = "order.bin";
 
-// The first bytes of a file, `most` at the most; none where there is no such file.
+/// The first bytes of a file, `most` at the most; none where there is no such file.
 fn read_front(rt: &LibcRuntime, path: &str, most: u64) -> io::Result<Vec<u8>> {
     let mut bytes = Vec::new(rt.alloc());
     match File::open(rt, path) {
@@ -27,7 +27,7 @@ fn read_front(rt: &LibcRuntime, path: &str, most: u64) -> io::Result<Vec<u8>> {
     Ok(bytes)
 }
 
-// One byte more than a trace has tells that it is too long; the rest is left unread.
+/// One byte more than a trace has tells that it is too long; the rest is left unread.
 fn show(rt: &LibcRuntime) -> Result<(), AnyError> {
     let trace = read_front(rt, TRACE, MOST_BYTES as u64 + 1)?;
     rt.print(Listing::new(trace.as_slice()))?;

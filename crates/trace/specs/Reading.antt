@@ -21,7 +21,7 @@ abbrev pub and-then : {A B E : Type 0} → Result A E → (A → Result B E) →
 and-then (Ok x) f = f x
 and-then (Err e) f = Err e
 
--- how many reads the read bits tell, which have no gap
+-- how many reads the read bits tell: n bits from the lowest up are 2 ^ n - 1, and any others have a gap
 abbrev pub reads-in : ℕ → Option ℕ
 reads-in b = cond (eqb b 0) (Some 0) (cond (eqb b 1) (Some 1) (cond (eqb b 3) (Some 2) (cond (eqb b 7) (Some 3) (cond (eqb b 15) (Some 4) (cond (eqb b 31) (Some 5) None)))))
 

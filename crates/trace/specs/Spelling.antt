@@ -9,7 +9,7 @@ use Rattle.std.specs.shelf.Maps.{nth}
 use Rattle.records.specs.Instance.{Instance, Recordable}
 use Rattle.trace.specs.Layouts.{Fields, byte-of, if-set}
 
--- bytes hold cells, two bytes to a cell, the low byte first
+-- bytes hold cells, two bytes to a cell, the low byte first; bytes are below 256, so cells are below 65,536
 abbrev pub Hold : List ℕ → List ℕ → Type 0
 Hold [] [] = Unit {0}
 Hold (b ∷ bs) [] = ⊥

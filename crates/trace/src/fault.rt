@@ -1,27 +1,27 @@
-// Why bytes form no record, and why a record cannot be written.
+//! The refusals of reading and writing.
 ghost use mathlib.Core.Path.{_≡_};
 ghost use Rattle.trace.specs.Faults.{number-of, place-of, write-number-of};
 ghost use Rattle.trace.specs.declared.fault.TraceFault.the-variants.{Read, NoMemory};
 use std::alloc::AllocError;
 use std::alloc::Refused;
 
-// Each at the place of the record's map byte.
+/// Why bytes form no record; each case has the place of the map byte.
 #[derive(Clone, Copy, Debug, PartialEq, Eq)]
 pub enum ReadFault {
-    // Bit 7 of the map byte stands.
+    /// Bit 7 of the map byte stands.
     HighBit { place: usize },
-    // The read bits have a gap.
+    /// The read bits have a gap.
     Gap { place: usize },
-    // There is neither a written cell nor a read.
+    /// There is neither a written cell nor a read.
     NoCell { place: usize },
-    // The record runs past the end of the trace.
+    /// The record runs past the end of the trace.
     PastEnd { place: usize },
-    // The operator is over 15.
+    /// The operator is over 15.
     Operator { place: usize },
 }
 
 impl ReadFault {
-    // The number of the refusal.
+    /// The number of the refusal.
     pub fn number(self) -> u8
         ensures { λ r. ⌜ r ≡ number-of self ⌝ }
     {
@@ -34,7 +34,7 @@ impl ReadFault {
         }
     }
 
-    // Where the record begins that is refused.
+    /// Where the record begins that is refused.
     pub fn place(self) -> usize
         ensures { λ r. ⌜ r ≡ place-of self ⌝ }
     {
@@ -48,14 +48,15 @@ impl ReadFault {
     }
 }
 
+/// Why a record cannot be written.
 #[derive(Clone, Copy, Debug)]
 pub enum WriteFault {
-    // Fewer bytes are left than the record takes, which is `size`.
+    /// Fewer bytes are left than the record takes, which is `size`.
     NoRoom { size: usize },
 }
 
 impl WriteFault {
-    // The number of the refusal.
+    /// The number of the refusal.
     pub fn number(self) -> u8
         ensures { λ r. ⌜ r ≡ write-number-of self ⌝ }
     {
@@ -65,12 +66,12 @@ impl WriteFault {
     }
 }
 
-// Why a whole trace cannot be read.
+/// Why a whole trace cannot be read.
 #[derive(Clone, Copy, Debug, PartialEq, Eq)]
 pub enum TraceFault {
-    // Some bytes form no record.
+    /// Some bytes form no record.
     Read(ReadFault),
-    // There is no memory for its records.
+    /// There is no memory for its records.
     NoMemory,
 }
 

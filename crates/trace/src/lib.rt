@@ -1,4 +1,4 @@
-// Traces: the bytes of records.
+//! Traces: the bytes of records.
 pub mod fault;
 mod layout;
 pub mod reader;

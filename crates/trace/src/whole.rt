@@ -1,4 +1,4 @@
-// Reading a whole trace.
+//! Reading a whole trace.
 ghost use mathlib.Core.Path.{_≡_};
 ghost use mathlib.Core.List.{map};
 ghost use Rattle.std.specs.Of.Vec.{vec-items};
@@ -13,7 +13,7 @@ use crate::reader::TraceReader;
 use records::Record;
 use std::alloc::Global;
 
-// The records of a trace, or the refusal at the first place where no record is spelled.
+/// The records of a trace, or the refusal at the first place where no record is spelled.
 pub fn read_trace(heap: Global, bytes: &[u8]) -> Result<Vec<Record>, TraceFault>
     ensures answer { λ r. ⌜ Cases r (λ v. whole (now (bytes .entry)) ≡ record { taken = map instance (vec-items v); stop = None }) (λ e. Refused e (whole (now (bytes .entry)))) ⌝ }
     ensures spelled { λ r. ⌜ Cases r (λ v. Spell-all (now (bytes .entry)) (map instance (vec-items v))) (λ e. Stops e (now (bytes .entry))) ⌝ }

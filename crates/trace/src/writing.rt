@@ -1,4 +1,4 @@
-// Writing a record as bytes.
+//! Writing a record as bytes.
 ghost use mathlib.Core.Path.{_≡_};
 ghost use Prim.Native.Nat.{ℕ, _+_, _*_, _≤_};
 ghost use mathlib.Core.List.{List, _++_};
@@ -10,8 +10,8 @@ use crate::fault::WriteFault;
 use crate::layout::Layout;
 use records::Record;
 
-// Writes the shortest spelling of a record at the front of `out`, and answers its length. Later bytes stay.
-// Where there is no room for it, no byte is changed.
+/// Writes the shortest spelling of a record at the front of `out`, and answers its length. Later bytes stay.
+/// Where there is no room for it, no byte is changed.
 pub fn write_record(record: &Record, out: &mut [u8]) -> Result<usize, WriteFault>
     ensures answer { λ r. ⌜ r ≡ write-answer (shortest (instance (now («record» .entry)))) (now (out .entry)) ⌝ }
     ensures after { λ _. ⌜ now (out .exit) ≡ written-to (shortest (instance (now («record» .entry)))) (now (out .entry)) ⌝ }
@@ -33,7 +33,7 @@ pub fn write_record(record: &Record, out: &mut [u8]) -> Result<usize, WriteFault
 }
 
 impl Layout {
-    // The layout of a record's shortest spelling.
+    /// The layout of a record's shortest spelling.
     pub(crate) fn shortest(record: &Record) -> Layout
         ensures { λ r. ⌜ fields r ≡ shortest-fields (instance (now («record» .entry))) ⌝ }
     {
@@ -46,10 +46,11 @@ impl Layout {
         }
     }
 
-    // The map byte.
+    /// The map byte.
     pub(crate) fn byte(&self) -> u8
         ensures { λ r. ⌜ r ≡ byte-of (fields (now (self .entry))) ⌝ }
     {
+        // A bit for each read, from the lowest up.
         let reads = match self.reads {
             0 => 0,
             1 => 1,
@@ -62,7 +63,7 @@ impl Layout {
     }
 }
 
-// Whether a cell is the first of these.
+/// Whether a cell is the first of these.
 fn is_first(cell: u16, cells: &[u16]) -> bool
     ensures { λ r. ⌜ r ≡ is-first cell (now (cells .entry)) ⌝ }
 {
@@ -72,7 +73,7 @@ fn is_first(cell: u16, cells: &[u16]) -> bool
     }
 }
 
-// Writes bytes at a place, and answers the place after them.
+/// Writes bytes at a place, and answers the place after them.
 fn write_bytes(out: &mut [u8], place: usize, bytes: &[u8]) -> usize
     requires { ⌜ place + length (now bytes) ≤ length (now out) ⌝ }
     ensures end { λ r. ⌜ r ≡ place + length (now (bytes .entry)) ⌝ }
@@ -83,7 +84,7 @@ fn write_bytes(out: &mut [u8], place: usize, bytes: &[u8]) -> usize
     end
 }
 
-// Writes cells at a place, and answers the place after them.
+/// Writes cells at a place, and answers the place after them.
 fn write_cells(out: &mut [u8], place: usize, cells: &[u16]) -> usize
     requires { ⌜ place + 2 * length (now cells) ≤ length (now out) ⌝ }
     ensures end { λ r. ⌜ r ≡ place + 2 * length (now (cells .entry)) ⌝ }

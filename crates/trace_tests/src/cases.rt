@@ -1,59 +1,31 @@
-// What each map byte gives, with the bytes 1 to 13 after it. Written by tools/map_table.py.
+//! What each map byte gives, with the bytes 1 to 13 after it. Written by tools/map_table.py.
 
+/// What the bytes give.
 pub enum Case {
-    // It is refused by this number.
+    /// It is refused by this number.
     Refused(u8),
-    // It begins a record of so many bytes, with this text.
-    Read { size: usize, text: &'static str },
+    /// It begins a record of so many bytes, with this text.
+    Read(usize, &'static str),
 }
 
+/// By map byte.
 pub static CASES: [Case; 256] = [
     Case::Refused(43),
     Case::Refused(43),
-    Case::Read {
-        size: 3,
-        text: "op 0, 513 <-",
-    },
-    Case::Read {
-        size: 4,
-        text: "op 1, 770 <-",
-    },
-    Case::Read {
-        size: 3,
-        text: "op 0, 513 <- 513",
-    },
-    Case::Read {
-        size: 4,
-        text: "op 1, 770 <- 770",
-    },
-    Case::Read {
-        size: 5,
-        text: "op 0, 513 <- 1027",
-    },
-    Case::Read {
-        size: 6,
-        text: "op 1, 770 <- 1284",
-    },
+    Case::Read(3, "op 0, 513 <-"),
+    Case::Read(4, "op 1, 770 <-"),
+    Case::Read(3, "op 0, 513 <- 513"),
+    Case::Read(4, "op 1, 770 <- 770"),
+    Case::Read(5, "op 0, 513 <- 1027"),
+    Case::Read(6, "op 1, 770 <- 1284"),
     Case::Refused(42),
     Case::Refused(42),
     Case::Refused(42),
     Case::Refused(42),
-    Case::Read {
-        size: 5,
-        text: "op 0, 513 <- 513 1027",
-    },
-    Case::Read {
-        size: 6,
-        text: "op 1, 770 <- 770 1284",
-    },
-    Case::Read {
-        size: 7,
-        text: "op 0, 513 <- 1027 1541",
-    },
-    Case::Read {
-        size: 8,
-        text: "op 1, 770 <- 1284 1798",
-    },
+    Case::Read(5, "op 0, 513 <- 513 1027"),
+    Case::Read(6, "op 1, 770 <- 770 1284"),
+    Case::Read(7, "op 0, 513 <- 1027 1541"),
+    Case::Read(8, "op 1, 770 <- 1284 1798"),
     Case::Refused(42),
     Case::Refused(42),
     Case::Refused(42),
@@ -66,22 +38,10 @@ pub static CASES: [Case; 256] = [
     Case::Refused(42),
     Case::Refused(42),
     Case::Refused(42),
-    Case::Read {
-        size: 7,
-        text: "op 0, 513 <- 513 1027 1541",
-    },
-    Case::Read {
-        size: 8,
-        text: "op 1, 770 <- 770 1284 1798",
-    },
-    Case::Read {
-        size: 9,
-        text: "op 0, 513 <- 1027 1541 2055",
-    },
-    Case::Read {
-        size: 10,
-        text: "op 1, 770 <- 1284 1798 2312",
-    },
+    Case::Read(7, "op 0, 513 <- 513 1027 1541"),
+    Case::Read(8, "op 1, 770 <- 770 1284 1798"),
+    Case::Read(9, "op 0, 513 <- 1027 1541 2055"),
+    Case::Read(10, "op 1, 770 <- 1284 1798 2312"),
     Case::Refused(42),
     Case::Refused(42),
     Case::Refused(42),
@@ -110,22 +70,10 @@ pub static CASES: [Case; 256] = [
     Case::Refused(42),
     Case::Refused(42),
     Case::Refused(42),
-    Case::Read {
-        size: 9,
-        text: "op 0, 513 <- 513 1027 1541 2055",
-    },
-    Case::Read {
-        size: 10,
-        text: "op 1, 770 <- 770 1284 1798 2312",
-    },
-    Case::Read {
-        size: 11,
-        text: "op 0, 513 <- 1027 1541 2055 2569",
-    },
-    Case::Read {
-        size: 12,
-        text: "op 1, 770 <- 1284 1798 2312 2826",
-    },
+    Case::Read(9, "op 0, 513 <- 513 1027 1541 2055"),
+    Case::Read(10, "op 1, 770 <- 770 1284 1798 2312"),
+    Case::Read(11, "op 0, 513 <- 1027 1541 2055 2569"),
+    Case::Read(12, "op 1, 770 <- 1284 1798 2312 2826"),
     Case::Refused(42),
     Case::Refused(42),
     Case::Refused(42),
@@ -186,22 +134,10 @@ pub static CASES: [Case; 256] = [
     Case::Refused(42),
     Case::Refused(42),
     Case::Refused(42),
-    Case::Read {
-        size: 11,
-        text: "op 0, 513 <- 513 1027 1541 2055 2569",
-    },
-    Case::Read {
-        size: 12,
-        text: "op 1, 770 <- 770 1284 1798 2312 2826",
-    },
-    Case::Read {
-        size: 13,
-        text: "op 0, 513 <- 1027 1541 2055 2569 3083",
-    },
-    Case::Read {
-        size: 14,
-        text: "op 1, 770 <- 1284 1798 2312 2826 3340",
-    },
+    Case::Read(11, "op 0, 513 <- 513 1027 1541 2055 2569"),
+    Case::Read(12, "op 1, 770 <- 770 1284 1798 2312 2826"),
+    Case::Read(13, "op 0, 513 <- 1027 1541 2055 2569 3083"),
+    Case::Read(14, "op 1, 770 <- 1284 1798 2312 2826 3340"),
     Case::Refused(41),
     Case::Refused(41),
     Case::Refused(41),

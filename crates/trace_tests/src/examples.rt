@@ -1,4 +1,4 @@
-// Worked examples: records, their shortest spelling, and the listings of short traces.
+//! Worked examples: records, their shortest spelling, and the listings of short traces.
 use listing::Listing;
 use listing::listing::ListingDisplay;
 use records::Record;
@@ -100,7 +100,7 @@ static EXAMPLES: [Example; 8] = [
     },
 ];
 
-// It is written as its bytes, which read back; a buffer one byte short stays as it is.
+/// It is written as its bytes, which read back; a buffer one byte short stays as it is.
 fn round_trip(example: &Example) -> Result<(), Fail> {
     let record = Record::new(example.operator, example.written, example.reads)?;
     let size = example.bytes.len();
@@ -131,7 +131,7 @@ fn shortest_spellings() -> Result<(), Fail> {
     Ok(())
 }
 
-// A trace and the text of its listing. The refusals come in the sequence of their numbers.
+/// A trace and the text of its listing. The refusals come in the sequence of their numbers.
 static LISTINGS: [(&[u8], &str); 12] = [
     (&[], "0 records\n"),
     (&[0x05, 0x01, 0x05, 0x00], "1: op 1, 5 <- 5\n1 records\n"),

@@ -1,4 +1,4 @@
-// Tests of records, traces and listings, on cases that were worked out by hand or by a script.
+//! Tests of records, traces and listings, on cases that were worked out by hand or by a script.
 #[cfg(test)]
 mod cases;
 #[cfg(test)]

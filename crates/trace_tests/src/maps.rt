@@ -1,4 +1,4 @@
-// Every map byte, with enough bytes after it and with one too few.
+//! Every map byte, with enough bytes after it and with one too few.
 use crate::cases::CASES;
 use crate::cases::Case;
 use records::record::RecordDisplay;
@@ -7,7 +7,7 @@ use std::test::*;
 use trace::TraceReader;
 use trace::fault::ReadFaultDebug;
 
-// The bytes at the front of `bytes` are refused by this number, and the reader stays where it is.
+/// The bytes at the front of `bytes` are refused by this number, and the reader stays where it is.
 fn refused(bytes: &[u8], number: u8) -> Result<(), Fail> {
     let mut reader = TraceReader::new(bytes);
     let Err(fault) = reader.next_record() else {
@@ -18,7 +18,7 @@ fn refused(bytes: &[u8], number: u8) -> Result<(), Fail> {
     check_eq(reader.place(), 0)
 }
 
-// The bytes begin with a record of this size and text.
+/// The bytes begin with a record of this size and text.
 fn read(heap: Global, bytes: &[u8], size: usize, text: &str) -> Result<(), Fail> {
     let mut reader = TraceReader::new(bytes);
     let Some(record) = reader.next_record()? else {
@@ -39,7 +39,7 @@ fn every_map_byte(rt: LibcRuntime) -> Result<(), Fail> {
                 refused(&bytes, number)?;
                 refused(&bytes[0..1], number)?;
             }
-            Case::Read { size, text } => {
+            Case::Read(size, text) => {
                 read(rt.alloc(), &bytes, size, text)?;
                 check(size > 0 && size <= 14)?;
                 refused(&bytes[0..size - 1], 44)?;

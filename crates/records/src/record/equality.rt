@@ -1,4 +1,4 @@
-// Records are equal exactly when they mean the same instance.
+//! Records are equal exactly when they mean the same instance.
 ghost use mathlib.Core.Path.{_≡_};
 ghost use Rattle.std.specs.Orderings.{Decides};
 ghost use Rattle.records.specs.Meaning.{instance};

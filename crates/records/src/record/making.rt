@@ -1,20 +1,18 @@
-// Records from their parts and from rows, and back to rows.
+//! Records from their parts and from rows, and back to rows.
 ghost use mathlib.Core.Path.{_≡_};
 ghost use lib.ListN.{length};
 ghost use Rattle.records.specs.Instance.{Instance};
 ghost use Rattle.records.specs.Making.{judged, judged-row, meant};
 use crate::fault::RecordFault;
 use crate::record::Record;
+use crate::row::MOST_READS;
 use crate::row::Row;
 
-// The most reads that a record has.
-const MOST_READS: usize = 5;
-
-// The largest operator.
+/// The largest operator.
 const LAST_OPERATOR: u8 = 15;
 
 impl Record {
-    // The record of these parts; an operator over 15 is refused first, then more than five reads.
+    /// The record of these parts; an operator over 15 is refused first, then more than five reads.
     pub fn new(operator: u8, written: u16, reads: &[u16]) -> Result<Record, RecordFault>
         ensures { λ r. ⌜ meant r ≡ judged (length (now (reads .entry))) (record { operator = operator; written = written; reads = now (reads .entry) }) ⌝ }
     {
@@ -35,7 +33,7 @@ impl Record {
         Ok(Record { row })
     }
 
-    // The record that lies in a row, judged as by `new`.
+    /// The record that lies in a row, judged as by `new`.
     pub fn from_row(row: Row) -> Result<Record, RecordFault>
         ensures { λ r. ⌜ meant r ≡ judged-row row ⌝ }
     {
@@ -48,7 +46,7 @@ impl Record {
         Ok(Record { row })
     }
 
-    // The row that the record lies in.
+    /// The row that the record lies in.
     pub fn to_row(&self) -> Row
         ensures { λ r. ⌜ r ≡ now (self .entry) .row ⌝ }
     {

@@ -1,4 +1,4 @@
-// The text of a record, as `op 1, 5 <- 2 4`.
+//! The text of a record, as `op 1, 5 <- 2 4`.
 ghost use Rattle.std.specs.declared.option.Option.the-variants.{Some};
 ghost use Rattle.records.specs.Meaning.{instance};
 ghost use Rattle.records.specs.Text.{cells-text, text};
@@ -18,7 +18,7 @@ pub impl fmt::Display for Record as RecordDisplay {
     }
 }
 
-// Cells as text, each after a space.
+/// Cells as text, each after a space.
 #[derive(Clone, Copy)]
 struct Spaced<'a> {
     cells: &'a [u16],

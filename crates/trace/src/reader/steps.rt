@@ -1,4 +1,4 @@
-// A trace, read record by record.
+//! A trace, read record by record.
 ghost use mathlib.Core.Path.{_≡_};
 ghost use Rattle.trace.specs.Reader.{cursor, after, next, told, Finds};
 ghost use Rattle.trace.specs.Spelling.{Unambiguous};
@@ -8,7 +8,7 @@ use crate::reading::read_front;
 use records::Record;
 
 impl TraceReader<'_> {
-    // The record at the place, which it passes, or none at the end. A refusal leaves the place.
+    /// The record at the place, which it passes, or none at the end. A refusal leaves the place.
     pub fn next_record(&mut self) -> Result<Option<Record>, ReadFault>
         ensures answer { λ r. ⌜ told r ≡ next (cursor (now (self .entry))) ⌝ }
         ensures after { λ _. ⌜ cursor (now (self .exit)) ≡ after (cursor (now (self .entry))) ⌝ }
