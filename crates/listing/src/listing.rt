@@ -1,7 +1,7 @@
 //! A trace, listed record by record.
 ghost use mathlib.Core.Path.{_≡_};
 ghost use Rattle.std.specs.declared.option.Option.the-variants.{Some};
-ghost use Rattle.listing.specs.Lines.{Lists, listing};
+ghost use Rattle.listing.specs.Lines.{Lists, Suffice, listing};
 use crate::fault::ListFault;
 use crate::fault::ListFaultDisplay;
 use crate::fault::MOST_BYTES;
@@ -23,6 +23,14 @@ impl<'a> Listing<'a> {
         ensures lists { λ _. ⌜ Lists (now (bytes .entry)) ⌝ }
     {
         Listing { bytes }
+    }
+
+    /// How many bytes from the start of a trace tell its text, however long it is.
+    pub fn bytes_needed() -> u64
+        ensures value { λ r. ⌜ r ≡ 65537 ⌝ }
+        ensures suffice { λ r. ⌜ Suffice r ⌝ }
+    {
+        MOST_BYTES as u64 + 1
     }
 }
 

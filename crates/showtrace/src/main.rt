@@ -1,6 +1,5 @@
 //! Prints what is in the trace `order.bin` of the current folder.
 use listing::Listing;
-use listing::fault::MOST_BYTES;
 use listing::listing::ListingDisplay;
 use std::error::AnyError;
 use std::fs::File;
@@ -27,9 +26,9 @@ fn read_front(rt: &LibcRuntime, path: &str, most: u64) -> io::Result<Vec<u8>> {
     Ok(bytes)
 }
 
-/// One byte more than a trace has tells that it is too long; the rest is left unread.
+/// Prints the listing of the trace. What lies past the bytes that tell it is left unread.
 fn show(rt: &LibcRuntime) -> Result<(), AnyError> {
-    let trace = read_front(rt, TRACE, MOST_BYTES as u64 + 1)?;
+    let trace = read_front(rt, TRACE, Listing::bytes_needed())?;
     rt.print(Listing::new(trace.as_slice()))?;
     Ok(())
 }
