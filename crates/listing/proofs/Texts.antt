@@ -1,24 +1,19 @@
 -- The text of a trace, by what is left to list.
 use mathlib.Core.Path.{_≡_, refl, sym, ap, _∙_}
-use mathlib.Core.Bool.{cond}
 use mathlib.Core.Logic.{inl, inr}
 use mathlib.Core.List.{List, [], _∷_, _++_, append-assoc}
 use Prim.Native.Nat.{ℕ, _+_, _<_, _≤_}
 use native.Mathlib.Omega.{arith}
 use lib.Chars.{codes}
-use lib.Dec.{ltb}
 use lib.ListN.{length, take}
 use Rattle.std.proofs.shelf.Lists.{length-take-le, take-all}
 use Rattle.std.proofs.shelf.Tests.{cases-lt, le-ltb, lt-ltb}
 use Rattle.std.specs.Written.{digits}
-use Rattle.std.specs.declared.option.Option.the-variants.{Some, None}
 use Rattle.records.specs.Instance.{Instance}
-use Rattle.trace.proofs.Walks.{ahead, finds-all, rest-of}
-use Rattle.trace.specs.Reader.{Cursor}
+use Rattle.trace.proofs.Walks.{ahead, finds-all}
 use Rattle.trace.specs.Traces.{Walk, whole}
-use Rattle.trace.specs.declared.fault.ReadFault.{ReadFault}
 use Rattle.listing.specs.Lines.{Lists, Suffice, line, lines, listing, refused-text}
-use Rattle.listing.specs.declared.fault.ListFault.the-variants.{TooLong, Read}
+use Rattle.listing.specs.declared.fault.ListFault.the-variants.{TooLong}
 
 -- the text of a walk after n records
 abbrev pub told : ℕ → Walk → List ℕ

@@ -8,11 +8,10 @@ use lib.Dec.{eqb, ltb}
 use Rattle.std.proofs.shelf.Tests.{cases-eq, ne-eqb, eqb-false}
 use Rattle.std.specs.declared.option.Option.{Option}
 use Rattle.std.specs.declared.option.Option.the-variants.{Some, None}
-use Rattle.std.specs.declared.result.Result.{Result}
 use Rattle.std.specs.declared.result.Result.the-variants.{Ok, Err}
+use Rattle.trace.proofs.Apart.{err-ok, none-some}
 use Rattle.trace.specs.Layouts.{Fields, bit, byte-of, cells-of}
-use Rattle.trace.specs.Reading.{reads-in, with-cell, without-gap, layout-at}
-use Rattle.trace.specs.declared.fault.ReadFault.{ReadFault}
+use Rattle.trace.specs.Reading.{reads-in, without-gap, layout-at}
 use Rattle.trace.specs.declared.fault.ReadFault.the-variants.{HighBit, Gap, NoCell}
 
 each : (P : Bool → Bool → Type 0) → P true true → P true false → P false true → P false false → (o w : Bool) → P o w
@@ -65,7 +64,7 @@ module _ (r n : ℕ) (e : reads-in r ≡ Some n) where
                                       | inl q ↦ at-bits 31 5 q refl refl (omega arith)
                                       | inr g ↦
                                           let none : reads-in r ≡ None = rw (ne-eqb r 0 a, ne-eqb r 1 b, ne-eqb r 3 c, ne-eqb r 7 d, ne-eqb r 15 f, ne-eqb r 31 g) in
-                                          let z : _≡_ {A = ℕ} 0 1 = cc in absurd (omega arith)
+                                          absurd (none-some n (sym none ∙ e))
                                     ]
                               ]
                         ]
@@ -92,12 +91,12 @@ some-cell true n q = omega arith
 some-cell false n q = omega (arith, eqb-false n 0 q)
 
 with-cell-told : (p : ℕ) (x y : Fields) (t : Bool) → cond t (Err (NoCell p)) (Ok x) ≡ Ok y → (not (x .written) && eqb (x .reads) 0) ≡ t → (x ≡ y) × (0 < cells-of x)
-with-cell-told p x y true e q = let z : _≡_ {A = ℕ} 0 1 = cc in absurd (omega arith)
+with-cell-told p x y true e q = absurd (err-ok (NoCell p) y e)
 with-cell-told p x y false e q = (cc, some-cell (x .written) (x .reads) q)
 
 told-by : (p b : ℕ) (y : Fields) (t : Bool) (o : Option ℕ) → reads-in (b / 4) ≡ o → cond t (Err (HighBit p)) (without-gap p b o) ≡ Ok y → Told b y
-told-by p b y true o q e = let z : _≡_ {A = ℕ} 0 1 = cc in absurd (omega arith)
-told-by p b y false None q e = let z : _≡_ {A = ℕ} 0 1 = cc in absurd (omega arith)
+told-by p b y true o q e = absurd (err-ok (HighBit p) y e)
+told-by p b y false None q e = absurd (err-ok (Gap p) y e)
 told-by p b y false (Some n) q e =
     let x : Fields = record { operator = eqb (b % 2) 1; written = eqb (b / 2 % 2) 1; reads = n } in
     let made = with-cell-told p x y (not (x .written) && eqb n 0) e refl in

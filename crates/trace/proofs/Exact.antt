@@ -1,28 +1,26 @@
 -- Reading finds exactly what is spelled.
-use mathlib.Core.Path.{_≡_, refl, sym, ap, subst, _∙_}
+use mathlib.Core.Path.{_≡_, refl, sym, ap, _∙_}
 use mathlib.Core.Bool.{Bool, true, false, cond}
 use mathlib.Core.List.{List, [], _∷_, _++_, append-assoc}
-use Prim.Native.Nat.{ℕ, zero, suc, _+_, _-_, _*_, _<_, _≤_}
+use Prim.Native.Nat.{ℕ, _+_, _<_}
 use native.Mathlib.Omega.{arith}
-use lib.Dec.{ltb}
 use lib.ListN.{length, take, drop, getD, length-append}
-use Rattle.std.proofs.shelf.Lists.{take-at, length-take-le}
-use Rattle.std.proofs.shelf.Tests.{le-ltb, ltb-false}
+use Rattle.std.proofs.shelf.Lists.{take-at}
 use Rattle.std.specs.declared.option.Option.{Option}
-use Rattle.std.specs.declared.option.Option.the-variants.{Some, None}
+use Rattle.std.specs.declared.option.Option.the-variants.{Some}
 use Rattle.std.specs.declared.result.Result.{Result}
-use Rattle.std.specs.declared.result.Result.the-variants.{Ok, Err}
+use Rattle.std.specs.declared.result.Result.the-variants.{Ok}
 use Rattle.std.specs.shelf.Maps.{nth}
 use Rattle.records.proofs.Parts.{same-parts}
-use Rattle.records.specs.Instance.{Instance, Recordable}
-use Rattle.trace.proofs.Bytes.{Told, byte-tells, byte-from}
+use Rattle.records.specs.Instance.{Instance}
+use Rattle.trace.proofs.Apart.{none-some}
+use Rattle.trace.proofs.Bytes.{byte-tells}
 use Rattle.trace.proofs.Found.{record-is}
-use Rattle.trace.proofs.Held.{length-held, cells-held, held-cells}
+use Rattle.trace.proofs.Held.{length-held, cells-held}
 use Rattle.trace.specs.Layouts.{Fields, bit, byte-of, cells-of, size-of, if-set}
 use Rattle.trace.specs.Reading.{Piece, and-then, cells-in, found, layout-at, record-at, read-at}
-use Rattle.trace.specs.Spelling.{Hold, Spells, Unambiguous}
+use Rattle.trace.specs.Spelling.{Spells, Unambiguous}
 use Rattle.trace.specs.declared.fault.ReadFault.{ReadFault}
-use Rattle.trace.specs.declared.fault.ReadFault.the-variants.{PastEnd, Operator}
 
 -- the written cell is the first of the cells that stand
 first-is : (w : Bool) (c : ℕ) (rs : List ℕ) → (w ≡ false → nth rs 0 ≡ Some c) → getD (if-set w c ++ rs) 0 0 ≡ c
@@ -40,7 +38,7 @@ count-is false c rs n e = omega arith
 
 some-is : (w : Bool) (c : ℕ) (rs : List ℕ) → (w ≡ false → nth rs 0 ≡ Some c) → 0 < length (if-set w c ++ rs)
 some-is true c rs h = omega arith
-some-is false c [] h = let z = h refl in let q : _≡_ {A = ℕ} 0 1 = cc in absurd (omega arith)
+some-is false c [] h = absurd (none-some c (h refl))
 some-is false c (r ∷ rs) h = omega arith
 
 operator-is : (o : Bool) (c b : ℕ) (xs : List ℕ) → (o ≡ false → c ≡ 0) → cond o (getD (b ∷ (if-set o c ++ xs)) 1 0) 0 ≡ c

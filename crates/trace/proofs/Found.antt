@@ -1,23 +1,20 @@
 -- The record that reading finds.
 use mathlib.Core.Path.{_≡_, refl, sym, ap, subst, _∙_}
 use mathlib.Core.Bool.{Bool, true, false, cond}
-use mathlib.Core.List.{List, [], _∷_, _++_}
+use mathlib.Core.List.{List}
 use Prim.Native.Nat.{ℕ, zero, suc, _+_, _*_, _<_, _≤_}
 use native.Mathlib.Omega.{arith}
 use native.Mathlib.Nat.{zero-add, add-zero}
 use native.Mathlib.Numerals.{one-add}
-use lib.Dec.{ltb}
 use lib.ListN.{length, drop, getD}
 use Rattle.std.proofs.shelf.Lists.{drop-drop}
 use Rattle.std.proofs.shelf.Tests.{le-ltb}
-use Rattle.std.specs.declared.result.Result.{Result}
-use Rattle.std.specs.declared.result.Result.the-variants.{Ok, Err}
+use Rattle.std.specs.declared.result.Result.the-variants.{Ok}
 use Rattle.records.proofs.Parts.{same-parts}
 use Rattle.records.specs.Instance.{Instance}
 use Rattle.trace.proofs.Cells.{cell-drop}
 use Rattle.trace.specs.Layouts.{Fields, bit, cells-of, size-of}
 use Rattle.trace.specs.Reading.{cell-at, cells-in, found, record-at}
-use Rattle.trace.specs.declared.fault.ReadFault.{ReadFault}
 
 -- the written cell is the first that stands, and the reads are the rest, or all
 first-cell : (n : ℕ) (bs : List ℕ) → 0 < n → getD (cells-in n bs) 0 0 ≡ cell-at bs 0

@@ -1,10 +1,10 @@
 -- Bytes that hold cells.
-use mathlib.Core.Path.{_≡_, refl, sym, ap, subst, _∙_}
+use mathlib.Core.Path.{_≡_, refl, sym}
 use mathlib.Core.List.{List, [], _∷_, _++_}
-use Prim.Native.Nat.{ℕ, zero, suc, _+_, _*_, _<_, _≤_}
+use Prim.Native.Nat.{ℕ, zero, suc, _*_, _≤_}
 use native.Mathlib.Omega.{arith}
-use lib.ListN.{length, take, drop, getD}
-use Rattle.trace.specs.Reading.{cell-at, cells-in}
+use lib.ListN.{length, take}
+use Rattle.trace.specs.Reading.{cells-in}
 use Rattle.trace.specs.Spelling.{Hold}
 
 pub length-held : (bs cs : List ℕ) → Hold bs cs → length bs ≡ 2 * length cs

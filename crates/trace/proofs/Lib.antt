@@ -1,3 +1,4 @@
+mod Apart
 mod Bytes
 mod Cells
 mod Exact

@@ -9,10 +9,9 @@ use Rattle.std.specs.declared.option.Option.{Option}
 use Rattle.std.specs.declared.option.Option.the-variants.{Some, None}
 use Rattle.std.specs.declared.result.Result.{Result}
 use Rattle.std.specs.declared.result.Result.the-variants.{Ok, Err}
-use Rattle.records.specs.Instance.{Instance}
 use Rattle.trace.specs.Faults.{place-of}
 use Rattle.trace.specs.Layouts.{Fields, size-of}
-use Rattle.trace.specs.Reading.{Piece, and-then, found, layout-at, reads-in, read-at, record-at, with-cell, without-gap}
+use Rattle.trace.specs.Reading.{and-then, found, layout-at, reads-in, read-at, record-at, with-cell, without-gap}
 use Rattle.trace.specs.declared.fault.ReadFault.{ReadFault}
 use Rattle.trace.specs.declared.fault.ReadFault.the-variants.{HighBit, NoCell, PastEnd, Operator}
 

@@ -2,16 +2,17 @@
 use mathlib.Core.Path.{_≡_, refl, sym, ap, _∙_}
 use mathlib.Core.Bool.{Bool, true, false, not}
 use mathlib.Core.List.{List, [], _∷_, _++_, append-assoc}
-use Prim.Native.Nat.{ℕ, _+_, _-_, _*_, _/_, _%_, _<_, _≤_}
+use Prim.Native.Nat.{ℕ, _+_, _-_, _*_, _<_, _≤_}
 use native.Mathlib.Nat.{zero-add}
 use native.Mathlib.Omega.{arith}
 use lib.Dec.{eqb, ltb}
-use lib.ListN.{length, take, drop}
-use Rattle.std.proofs.shelf.Tests.{eqb-true, eq-eqb, le-ltb, lt-ltb, not-false}
+use lib.ListN.{length, take}
+use Rattle.std.proofs.shelf.Tests.{eqb-true, eq-eqb, le-ltb, lt-ltb, not-false, true≢false}
 use Rattle.std.specs.declared.option.Option.the-variants.{Some}
 use Rattle.std.specs.declared.result.Result.the-variants.{Ok, Err}
 use Rattle.std.specs.shelf.Maps.{nth}
 use Rattle.records.specs.Instance.{Instance, Recordable}
+use Rattle.trace.proofs.Apart.{none-some}
 use Rattle.trace.proofs.Exact.{size-is, spelled-read}
 use Rattle.trace.proofs.Puts.{cell-bytes-append, four-puts, length-cell-bytes}
 use Rattle.trace.specs.Layouts.{bit, byte-of, if-set, size-of}
@@ -29,7 +30,7 @@ hold-bytes [] = tt
 hold-bytes (c ∷ cs) = (omega arith, hold-bytes cs)
 
 first-out : (c : ℕ) (rs : List ℕ) → not (is-first c rs) ≡ false → nth rs 0 ≡ Some c
-first-out c [] e = let z : _≡_ {A = ℕ} 0 1 = cc in absurd (omega arith)
+first-out c [] e = absurd (true≢false e)
 first-out c (r ∷ rs) e = ap (λ (x : ℕ). Some x) (sym (eqb-true c r (not-false (eqb c r) e)))
 
 short-spells : (i : Instance) → Recordable i → Spells (shortest i) i
@@ -55,7 +56,7 @@ operator-least false c h = rw (h refl) (omega arith)
 
 written-least : (w : Bool) (c : ℕ) (rs : List ℕ) → (w ≡ false → nth rs 0 ≡ Some c) → bit (not (is-first c rs)) ≤ bit w
 written-least true c rs h = at-most-one (not (is-first c rs))
-written-least false c [] h = let e = h refl in let z : _≡_ {A = ℕ} 0 1 = cc in absurd (omega arith)
+written-least false c [] h = absurd (none-some c (h refl))
 written-least false c (r ∷ rs) h =
     let e = h refl in
     let same : c ≡ r = cc in

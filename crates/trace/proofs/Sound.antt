@@ -2,7 +2,7 @@
 use mathlib.Core.Path.{_≡_, refl, sym, ap, subst, _∙_}
 use mathlib.Core.Bool.{Bool, true, false, cond}
 use mathlib.Core.List.{List, [], _∷_, _++_}
-use Prim.Native.Nat.{ℕ, zero, suc, _+_, _-_, _*_, _<_, _≤_}
+use Prim.Native.Nat.{ℕ, zero, suc, _+_, _*_, _<_, _≤_}
 use native.Mathlib.Nat.{zero-add}
 use native.Mathlib.Numerals.{one-add}
 use native.Mathlib.Omega.{arith}
@@ -10,24 +10,25 @@ use lib.Dec.{ltb}
 use lib.ListN.{length, take, drop, getD}
 use Rattle.std.proofs.shelf.Maps.{nth-getD}
 use Rattle.std.proofs.shelf.Lists.{length-drop}
-use Rattle.std.proofs.shelf.Tests.{ltb-false}
+use Rattle.std.proofs.shelf.Tests.{ltb-false, true≢false}
 use Rattle.std.specs.declared.option.Option.{Option}
 use Rattle.std.specs.declared.option.Option.the-variants.{Some, None}
 use Rattle.std.specs.declared.result.Result.{Result}
 use Rattle.std.specs.declared.result.Result.the-variants.{Ok, Err}
 use Rattle.std.specs.shelf.Maps.{nth}
-use Rattle.records.specs.Instance.{Instance, Recordable}
+use Rattle.records.specs.Instance.{Instance}
+use Rattle.trace.proofs.Apart.{err-ok, ok-none-some}
 use Rattle.trace.proofs.Bytes.{Told, byte-from}
 use Rattle.trace.proofs.Held.{held-cells}
-use Rattle.trace.specs.Layouts.{Fields, bit, byte-of, cells-of, size-of, if-set}
+use Rattle.trace.specs.Layouts.{Fields, bit, cells-of, size-of, if-set}
 use Rattle.trace.specs.Reading.{Piece, and-then, cells-in, found, layout-at, record-at, read-at}
-use Rattle.trace.specs.Spelling.{Hold, Spells}
+use Rattle.trace.specs.Spelling.{Spells}
 use Rattle.trace.specs.declared.fault.ReadFault.{ReadFault}
 use Rattle.trace.specs.declared.fault.ReadFault.the-variants.{PastEnd, Operator}
 
 then-ok : {A B E : Type 0} (r : Result A E) (f : A → Result B E) (x : B) → and-then r f ≡ Ok x → (a : A) × (r ≡ Ok a) × (f a ≡ Ok x)
 then-ok (Ok a) f x e = (a, refl, e)
-then-ok (Err d) f x e = let z : _≡_ {A = ℕ} 0 1 = cc in absurd (omega arith)
+then-ok (Err d) f x e = absurd (err-ok d x e)
 
 -- what a record that was found is
 pub record Within (bs : List ℕ) (y : Fields) (i : Instance) : Type 0 where
@@ -36,8 +37,8 @@ pub record Within (bs : List ℕ) (y : Fields) (i : Instance) : Type 0 where
   pub small : found y bs .operator ≤ 15
 
 within-by : (p : ℕ) (bs : List ℕ) (y : Fields) (i : Instance) (a b : Bool) → ltb (length bs) (size-of y) ≡ a → ltb 15 (found y bs .operator) ≡ b → cond a (Err (PastEnd p)) (cond b (Err (Operator p)) (Ok (found y bs))) ≡ Ok i → Within bs y i
-within-by p bs y i true b s t e = let z : _≡_ {A = ℕ} 0 1 = cc in absurd (omega arith)
-within-by p bs y i false true s t e = let z : _≡_ {A = ℕ} 0 1 = cc in absurd (omega arith)
+within-by p bs y i true b s t e = absurd (err-ok (PastEnd p) i e)
+within-by p bs y i false true s t e = absurd (err-ok (Operator p) i e)
 within-by p bs y i false false s t e = record { fits = ltb-false (length bs) (size-of y) s; is = cc; small = ltb-false 15 (found y bs .operator) t }
 
 within : (p : ℕ) (bs : List ℕ) (y : Fields) (i : Instance) → record-at p bs y ≡ Ok i → Within bs y i
@@ -54,11 +55,11 @@ rejoined true (c ∷ cs) h = refl
 rejoined false cs h = refl
 
 written-out : (w : Bool) (cs : List ℕ) → 0 < length cs → w ≡ false → nth (drop (bit w) cs) 0 ≡ Some (getD cs 0 0)
-written-out true cs h e = let z : _≡_ {A = ℕ} 0 1 = cc in absurd (omega arith)
+written-out true cs h e = absurd (true≢false e)
 written-out false cs h e = nth-getD cs 0 0 h
 
 operator-out : (o : Bool) (c : ℕ) → o ≡ false → cond o c 0 ≡ 0
-operator-out true c e = let z : _≡_ {A = ℕ} 0 1 = cc in absurd (omega arith)
+operator-out true c e = absurd (true≢false e)
 operator-out false c e = refl
 
 -- the bytes of a record, field by field
@@ -100,12 +101,9 @@ piece-is j i n x e h =
     let same : _≡_ {A = Piece} (record { meaning = i; size = n }) x = cc in
     ap (λ (k : Instance). record { meaning = k; size = n }) e ∙ same
 
-none-is-some : (x : Piece) → _≡_ {A = Result (Option Piece) ReadFault} (Ok (Some x)) (Ok None) → ⊥
-none-is-some x e = let z : _≡_ {A = ℕ} 0 1 = cc in omega arith
-
 -- the record that is read is spelled by the bytes that it takes
 pub read-spelled : (p : ℕ) (bs : List ℕ) (x : Piece) → read-at p bs ≡ Ok (Some x) → Spells (take (x .size) bs) (x .meaning) × (x .size ≤ length bs)
-read-spelled p [] x e = let z : _≡_ {A = ℕ} 0 1 = cc in absurd (omega arith)
+read-spelled p [] x e = absurd (ok-none-some x e)
 read-spelled p (b ∷ bs) x e =
     let (y, tells, more) = then-ok (layout-at p b) _ (Some x) e in
     let (i, at, made) = then-ok (record-at p (b ∷ bs) y) _ (Some x) more in
@@ -121,4 +119,4 @@ none-left p [] e = refl
 none-left p (b ∷ bs) e =
     let (y, tells, more) = then-ok (layout-at p b) _ None e in
     let (i, at, made) = then-ok (record-at p (b ∷ bs) y) _ None more in
-    absurd (none-is-some _ made)
+    absurd (ok-none-some _ (sym made))

@@ -1,6 +1,6 @@
 -- A reader's step finds exactly what is spelled.
 use mathlib.Core.Path.{_≡_, refl, sym, ap, subst, _∙_}
-use mathlib.Core.List.{List, [], _∷_, _++_}
+use mathlib.Core.List.{List, _++_}
 use Prim.Native.Nat.{ℕ, _+_, _-_, _≤_}
 use native.Mathlib.Omega.{arith}
 use lib.ListN.{length, take, drop}
@@ -10,10 +10,11 @@ use Rattle.std.specs.declared.option.Option.the-variants.{Some, None}
 use Rattle.std.specs.declared.result.Result.{Result}
 use Rattle.std.specs.declared.result.Result.the-variants.{Ok, Err}
 use Rattle.records.specs.Instance.{Instance}
+use Rattle.trace.proofs.Apart.{err-ok}
 use Rattle.trace.proofs.Exact.{spelled-read}
 use Rattle.trace.proofs.Places.{fault-place}
 use Rattle.trace.proofs.Sound.{none-left, read-spelled}
-use Rattle.trace.specs.Reader.{Cursor, Finds, after, answer, left, next, spelling, stepped}
+use Rattle.trace.specs.Reader.{Cursor, Finds, after, answer, left, next, stepped}
 use Rattle.trace.specs.Reading.{Piece, read-at}
 use Rattle.trace.specs.Spelling.{Spells}
 use Rattle.trace.specs.declared.fault.ReadFault.{ReadFault}
@@ -25,9 +26,6 @@ passed c n = let e : c .place + n - c .place ≡ n = omega arith in ap (λ (k : 
 pub beyond : (c : Cursor) (n : ℕ) → drop (c .place + n) (c .bytes) ≡ drop n (left c)
 beyond c n = sym (drop-drop n (c .place) (c .bytes))
 
-err-is-some : (f : ReadFault) (x : Piece) → _≡_ {A = Result (Option Piece) ReadFault} (Err f) (Ok (Some x)) → ⊥
-err-is-some f x e = let z : _≡_ {A = ℕ} 0 1 = cc in omega arith
-
 step-by : (c : Cursor) (r : Result (Option Piece) ReadFault) → read-at (c .place) (left c) ≡ r → Finds c (answer r) (stepped c r)
 step-by c (Ok None) e = (none-left (c .place) (left c) e, refl)
 step-by c (Ok (Some x)) e = (
@@ -36,7 +34,7 @@ step-by c (Ok (Some x)) e = (
 )
 step-by c (Err f) e = (
   fault-place (c .place) (left c) f e,
-  (λ s t i q h. err-is-some f _ (sym e ∙ (ap (read-at (c .place)) q ∙ spelled-read s t i h (c .place)))),
+  (λ s t i q h. err-ok f (Some _) (sym e ∙ (ap (read-at (c .place)) q ∙ spelled-read s t i h (c .place)))),
   refl,
 )
 

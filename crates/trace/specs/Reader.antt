@@ -1,6 +1,6 @@
 -- A trace reader: where it stands, and what its next step answers.
 use mathlib.Core.Path.{_≡_}
-use mathlib.Core.List.{List, [], _∷_, _++_}
+use mathlib.Core.List.{List, [], _++_}
 use Prim.Native.Nat.{ℕ, _+_, _-_}
 use denote.Ref.{now}
 use lib.ListN.{take, drop}

@@ -1,7 +1,6 @@
 //! Writing a record as bytes.
 ghost use mathlib.Core.Path.{_≡_};
-ghost use Prim.Native.Nat.{ℕ, _+_, _*_, _≤_};
-ghost use mathlib.Core.List.{List, _++_};
+ghost use Prim.Native.Nat.{_+_, _*_, _≤_};
 ghost use lib.ListN.{length};
 ghost use Rattle.records.specs.Meaning.{instance};
 ghost use Rattle.trace.specs.Layouts.{byte-of, fields};

@@ -1,7 +1,6 @@
 //! Records from their parts and from rows, and back to rows.
 ghost use mathlib.Core.Path.{_≡_};
 ghost use lib.ListN.{length};
-ghost use Rattle.records.specs.Instance.{Instance};
 ghost use Rattle.records.specs.Making.{judged, judged-row, meant};
 use crate::fault::RecordFault;
 use crate::record::Record;

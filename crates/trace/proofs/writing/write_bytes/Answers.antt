@@ -1,6 +1,5 @@
 use mathlib.Core.Path.{refl}
 use native.Mathlib.Omega.{arith}
-use lib.ListN.{length}
 use Rattle.trace.proofs.Puts.{part-put}
 use Rattle.trace.proofs.writing.write_bytes.Needs as need
 

@@ -1,5 +1,5 @@
 use mathlib.Core.Path.{refl, ap}
-use Rattle.std.proofs.Writes.{put-is, put-more, wrote-none}
+use Rattle.std.proofs.Writes.{put-is, put-more}
 use Rattle.std.proofs.shelf.Lists.{take-all}
 use Rattle.records.proofs.Texts.{cells-more}
 use Rattle.records.specs.Text.{cells-text}
