@@ -1,11 +1,10 @@
 -- A map byte tells its fields, and no other byte tells them.
-use mathlib.Core.Path.{_≡_, refl, sym, ap, subst, _∙_}
+use mathlib.Core.Path.{_≡_, refl, ap, subst, _∙_}
 use mathlib.Core.Bool.{Bool, true, false, cond, not, _&&_}
-use mathlib.Core.Logic.{inl, inr}
 use Prim.Native.Nat.{ℕ, zero, suc, _+_, _-_, _*_, _/_, _%_, _^_, _<_, _≤_}
 use native.Mathlib.Omega.{arith}
 use lib.Dec.{eqb, ltb}
-use Rattle.std.proofs.shelf.Tests.{cases-eq, ne-eqb, eqb-false}
+use Rattle.std.proofs.shelf.Tests.{eqb-false, eqb-true}
 use Rattle.std.specs.declared.option.Option.{Option}
 use Rattle.std.specs.declared.option.Option.the-variants.{Some, None}
 use Rattle.std.specs.declared.result.Result.the-variants.{Ok, Err}
@@ -37,40 +36,22 @@ byte-told p o w (suc (suc (suc (suc (suc (suc n)))))) h some = absurd (omega ari
 pub byte-tells : (p : ℕ) (y : Fields) → y .reads ≤ 5 → 0 < cells-of y → layout-at p (byte-of y) ≡ Ok y
 byte-tells p y h some = byte-told p (y .operator) (y .written) (y .reads) h some
 
-module _ (r n : ℕ) (e : reads-in r ≡ Some n) where
-  at-bits : (k m : ℕ) → r ≡ k → reads-in k ≡ Some m → k ≡ 2 ^ m - 1 → m ≤ 5 → (r ≡ 2 ^ n - 1) × (n ≤ 5)
-  at-bits k m q told is few =
-      let same : m ≡ n = (let a : Some m ≡ Some n = sym told ∙ (ap reads-in (sym q) ∙ e) in cc) in
-      (q ∙ (is ∙ ap (λ (j : ℕ). 2 ^ j - 1) same), subst (λ (j : ℕ). j ≤ 5) same few)
+module _ (r n : ℕ) where
+  -- read bits that are k, with m of them, or else the rest of the cases
+  one-case : (k m : ℕ) (rest : Option ℕ) (t : Bool) → eqb r k ≡ t → k ≡ 2 ^ m - 1 → m ≤ 5 → (rest ≡ Some n → (r ≡ 2 ^ n - 1) × (n ≤ 5)) → cond t (Some m) rest ≡ Some n → (r ≡ 2 ^ n - 1) × (n ≤ 5)
+  one-case k m rest true q is few more e =
+      let same : m ≡ n = cc in
+      (eqb-true r k q ∙ (is ∙ ap (λ (j : ℕ). 2 ^ j - 1) same), subst (λ (j : ℕ). j ≤ 5) same few)
+  one-case k m rest false q is few more e = more e
 
-  pub reads-told : (r ≡ 2 ^ n - 1) × (n ≤ 5)
+  pub reads-told : reads-in r ≡ Some n → (r ≡ 2 ^ n - 1) × (n ≤ 5)
   reads-told =
-      elim (cases-eq r 0) [
-        | inl q ↦ at-bits 0 0 q refl refl (omega arith)
-        | inr a ↦
-            elim (cases-eq r 1) [
-              | inl q ↦ at-bits 1 1 q refl refl (omega arith)
-              | inr b ↦
-                  elim (cases-eq r 3) [
-                    | inl q ↦ at-bits 3 2 q refl refl (omega arith)
-                    | inr c ↦
-                        elim (cases-eq r 7) [
-                          | inl q ↦ at-bits 7 3 q refl refl (omega arith)
-                          | inr d ↦
-                              elim (cases-eq r 15) [
-                                | inl q ↦ at-bits 15 4 q refl refl (omega arith)
-                                | inr f ↦
-                                    elim (cases-eq r 31) [
-                                      | inl q ↦ at-bits 31 5 q refl refl (omega arith)
-                                      | inr g ↦
-                                          let none : reads-in r ≡ None = rw (ne-eqb r 0 a, ne-eqb r 1 b, ne-eqb r 3 c, ne-eqb r 7 d, ne-eqb r 15 f, ne-eqb r 31 g) in
-                                          absurd (none-some n (sym none ∙ e))
-                                    ]
-                              ]
-                        ]
-                  ]
-            ]
-      ]
+      one-case 0 0 _ (eqb r 0) refl refl (omega arith)
+      (one-case 1 1 _ (eqb r 1) refl refl (omega arith)
+      (one-case 3 2 _ (eqb r 3) refl refl (omega arith)
+      (one-case 7 3 _ (eqb r 7) refl refl (omega arith)
+      (one-case 15 4 _ (eqb r 15) refl refl (omega arith)
+      (one-case 31 5 None (eqb r 31) refl refl (omega arith) (λ e. absurd (none-some n e)))))))
 
 bit-is : (x : ℕ) → x < 2 → bit (eqb x 1) ≡ x
 bit-is zero h = refl

@@ -8,5 +8,5 @@ mod Places
 mod Puts
 mod Short
 mod Sound
-pub mod Steps
+mod Steps
 pub mod Walks

@@ -6,7 +6,7 @@ use native.Mathlib.Nat.{add-zero}
 use native.Mathlib.Omega.{arith}
 use lib.ListN.{length, take, drop, getD, length-append}
 use borrow.Rule.Slice.PartMut.{putMid}
-use Rattle.std.proofs.shelf.Lists.{take-append-drop, take-at, take-more, drop-at, drop-drop, length-take-le, length-drop}
+use Rattle.std.proofs.shelf.Lists.{take-append-drop, take-at, take-more, drop-at, drop-drop, length-take-le}
 use Rattle.trace.specs.Writing.{cell-bytes, put}
 
 -- a copy into a part of a slice
@@ -21,12 +21,6 @@ module _ (n : ℕ) (s out : List ℕ) (fits : n + length s ≤ length out) where
 
   put-cut : put n s out ≡ (take n out ++ s) ++ drop (n + length s) out
   put-cut = sym (append-assoc (take n out) s (drop (n + length s) out))
-
-  pub length-put : length (put n s out) ≡ length out
-  length-put =
-      ap length put-cut
-      ∙ (length-append (take n out ++ s) (drop (n + length s) out)
-      ∙ omega (arith, front, length-drop (n + length s) out))
 
   before : take (n + length s) (put n s out) ≡ take n out ++ s
   before = ap (take (n + length s)) put-cut ∙ take-at (take n out ++ s) (drop (n + length s) out) (n + length s) front

@@ -38,9 +38,6 @@ step-by c (Err f) e = (
   refl,
 )
 
-pub step-finds : (c : Cursor) → Finds c (next c) (after c)
-step-finds c = step-by c (read-at (c .place) (left c)) refl
-
 -- a step stays within the trace
 step-within-by : (c : Cursor) (r : Result (Option Piece) ReadFault) → c .place ≤ length (c .bytes) → read-at (c .place) (left c) ≡ r → (stepped c r .bytes ≡ c .bytes) × (c .place ≤ stepped c r .place) × (stepped c r .place ≤ length (c .bytes))
 step-within-by c (Ok None) h e = (refl, omega arith, h)

@@ -56,9 +56,9 @@ pub record Finds-all (bs : List ℕ) : Type 0 where
   pub ends : Ends bs (whole bs .taken) (whole bs .stop)
 
 -- a refusal is the one that ended the walk; want of memory may come at any time
-abbrev pub Refused : TraceFault → Walk → Type 0
-Refused (Read f) w = w .stop ≡ Some f
-Refused NoMemory w = Unit {0}
+abbrev pub Ended-by : TraceFault → Walk → Type 0
+Ended-by (Read f) w = w .stop ≡ Some f
+Ended-by NoMemory w = Unit {0}
 
 -- a refusal is that of the bytes which follow the records of some front of the trace
 abbrev pub Stops : TraceFault → List ℕ → Type 0

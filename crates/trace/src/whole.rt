@@ -5,7 +5,7 @@ ghost use Rattle.std.specs.Of.Vec.{vec-items};
 ghost use Rattle.std.specs.Results.{Cases};
 ghost use Rattle.std.specs.declared.option.Option.the-variants.{None};
 ghost use Rattle.records.specs.Meaning.{instance};
-ghost use Rattle.trace.specs.Traces.{Finds-all, Refused, Spell-all, Stops, whole};
+ghost use Rattle.trace.specs.Traces.{Ended-by, Finds-all, Spell-all, Stops, whole};
 use crate::fault::TraceFault;
 use crate::fault::TraceFaultFromRead;
 use crate::fault::TraceFaultFromRefused;
@@ -15,7 +15,7 @@ use std::alloc::Global;
 
 /// The records of a trace, or the refusal at the first place where no record is spelled.
 pub fn read_trace(heap: Global, bytes: &[u8]) -> Result<Vec<Record>, TraceFault>
-    ensures answer { λ r. ⌜ Cases r (λ v. whole (now (bytes .entry)) ≡ record { taken = map instance (vec-items v); stop = None }) (λ e. Refused e (whole (now (bytes .entry)))) ⌝ }
+    ensures answer { λ r. ⌜ Cases r (λ v. whole (now (bytes .entry)) ≡ record { taken = map instance (vec-items v); stop = None }) (λ e. Ended-by e (whole (now (bytes .entry)))) ⌝ }
     ensures spelled { λ r. ⌜ Cases r (λ v. Spell-all (now (bytes .entry)) (map instance (vec-items v))) (λ e. Stops e (now (bytes .entry))) ⌝ }
     ensures exact { λ _. ⌜ Finds-all (now (bytes .entry)) ⌝ }
 {
