@@ -1,0 +1,7 @@
+pub mod Totals
+pub mod Searches
+pub mod Items
+pub mod Writers
+pub mod Readers
+pub mod Bounds
+mod Rows

@@ -1,0 +1,18 @@
+//! Sources: lists of statement instances, by the questions that they answer.
+pub mod counts;
+pub mod fault;
+pub mod parts;
+pub mod source;
+pub mod written;
+
+pub use counts::Counts;
+pub use counts::SourceCounts;
+pub use fault::RowsFault;
+pub use parts::Parts;
+pub use parts::SourceParts;
+pub use source::MOST_CELLS;
+pub use source::MOST_INSTANCES;
+pub use source::Source;
+pub use written::MOST_ROWS;
+pub use written::WrittenList;
+pub use written::WrittenListSource;
