@@ -7,13 +7,15 @@ use native.Mathlib.Omega.{arith}
 use lib.Dec.{eqb}
 use lib.ListN.{length}
 use Rattle.std.proofs.shelf.Sums.{countBy-le-length}
+use Rattle.std.specs.declared.option.Option.the-variants.{Some}
 use Rattle.std.specs.shelf.Lists.{All}
 use Rattle.records.specs.Instance.{Instance}
 use Rattle.sources.proofs.Readers.{readers-add-up, version-slots}
-use Rattle.sources.proofs.Totals.{total-at-most, total-grows, total-split}
-use Rattle.sources.proofs.Writers.{earlier-past, earlier-writes}
+use Rattle.sources.proofs.Searches.{least-passes}
+use Rattle.sources.proofs.Totals.{total-at-most, total-grows}
+use Rattle.sources.proofs.Writers.{earlier-writes, is-writer}
 use Rattle.sources.specs.Numbers.{total}
-use Rattle.sources.specs.Questions.{earlier, read-slots, readers, slots-at, writes, writes-at}
+use Rattle.sources.specs.Questions.{earlier, read-slots, readers, slots-at, writer, writes, writes-at}
 use Rattle.sources.specs.Sound.{Fitting, Sound}
 
 slots-few : (c C p : ℕ) (l : List Instance) → All (Fitting C) l → slots-at c l p ≤ 5
@@ -44,3 +46,8 @@ writes-few c l = omega (arith, total-at-most (λ q. cond (writes-at c l q) 1 0) 
 
 pub earlier-few : (c p : ℕ) (l : List Instance) → earlier c p l ≤ length l
 earlier-few c p l = omega (arith, writes-few c l, earlier-writes c p l)
+
+-- a writer is one of the instances
+pub writer-few : (c k p : ℕ) (l : List Instance) → writer c k l ≡ Some p → p < length l
+unfolding writer
+writer-few c k p l e = let (_, h) = least-passes (is-writer c k l) (length l) p e in h
