@@ -1,10 +1,12 @@
 //! Sources: lists of statement instances, by the questions that they answer.
+pub mod borrowed;
 pub mod counts;
 pub mod fault;
 pub mod parts;
 pub mod source;
 pub mod written;
 
+pub use borrowed::BorrowedSource;
 pub use counts::Counts;
 pub use counts::SourceCounts;
 pub use fault::RowsFault;

@@ -1,0 +1,4 @@
+//! Tests of sources and layers.
+mod compared;
+mod layered;
+mod rows;
