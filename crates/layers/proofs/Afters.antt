@@ -72,7 +72,3 @@ writer-after c k n w l m d e h f =
 
 pub writer-alone : (c k w : ℕ) (l m : List Instance) → w ≡ writes c l → w ≤ k → Fit l m false → None ≡ writer c k (joined l m)
 writer-alone c k w l m e h f = sym (ap (writer c k) (first-alone l m f) ∙ writer-absent c k l (omega arith))
-
--- the writes of the whole list, asked at its length
-pub whole : (c n w : ℕ) (l : List Instance) → n ≡ length l → w ≡ earlier c n l → w ≡ writes c l
-whole c n w l e f = f ∙ ap (λ (k : ℕ). earlier c k l) e

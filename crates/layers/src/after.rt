@@ -7,8 +7,10 @@ ghost use lib.ListN.{length};
 ghost use Rattle.layers.specs.Lists.{joined};
 ghost use Rattle.layers.specs.Sound.{joined-sound};
 use records::Record;
+use sources::Counts;
 use sources::MOST_INSTANCES;
 use sources::Source;
+use sources::SourceCounts;
 
 /// The first list, then the second; the first alone, where both together exceed 65,535 instances.
 #[derive(Clone, Copy)]
@@ -68,7 +70,7 @@ pub impl<A: Source, B: Source> Source for After<A, B> as AfterSource {
 
     fn writer(&self, cell: u16, count: u32) -> Option<u32> {
         let length = self.first.length();
-        let writes = self.first.earlier(cell, length);
+        let writes = self.first.writes(cell);
         if count < writes {
             return self.first.writer(cell, count);
         }
@@ -93,7 +95,7 @@ pub impl<A: Source, B: Source> Source for After<A, B> as AfterSource {
 
     fn readers(&self, cell: u16, version: u32) -> u32 {
         let readers = self.first.readers(cell, version);
-        let writes = self.first.earlier(cell, self.first.length());
+        let writes = self.first.writes(cell);
         if version < writes {
             return readers;
         }

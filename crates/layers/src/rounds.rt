@@ -7,8 +7,10 @@ ghost use Rattle.sources.specs.Questions.{readers};
 ghost use Rattle.layers.specs.Lists.{repeated, turns};
 ghost use Rattle.layers.specs.Sound.{repeated-sound};
 use records::Record;
+use sources::Counts;
 use sources::MOST_INSTANCES;
 use sources::Source;
+use sources::SourceCounts;
 
 /// The list below, `times` times over, or as often as it goes into 65,535 instances.
 #[derive(Clone, Copy)]
@@ -74,7 +76,7 @@ pub impl<S: Source> Source for Rounds<S> as RoundsSource {
 
     fn writer(&self, cell: u16, count: u32) -> Option<u32> {
         let length = self.below.length();
-        let writes = self.below.earlier(cell, length);
+        let writes = self.below.writes(cell);
         if writes == 0 {
             return None;
         }
@@ -92,13 +94,13 @@ pub impl<S: Source> Source for Rounds<S> as RoundsSource {
             return 0;
         }
         let position = position.min(self.length());
-        let writes = self.below.earlier(cell, length);
+        let writes = self.below.writes(cell);
         let rest = self.below.earlier(cell, position % length);
         position / length * writes + rest
     }
 
     fn readers(&self, cell: u16, version: u32) -> u32 {
-        let writes = self.below.earlier(cell, self.below.length());
+        let writes = self.below.writes(cell);
         if writes == 0 {
             return self.turns() * self.below.readers(cell, version);
         }

@@ -3,7 +3,7 @@ use Prim.Native.Nat.{_+_}
 use native.Mathlib.Omega.{arith}
 use Rattle.sources.proofs.Bounds.{readers-few}
 use Rattle.sources.specs.Questions.{readers, writes}
-use Rattle.layers.proofs.Afters.{readers-after, whole}
+use Rattle.layers.proofs.Afters.{readers-after}
 use Rattle.layers.proofs.Joined.{readers-before}
 use Rattle.layers.specs.Lists.{fitting-after, joined}
 use Rattle.layers.specs.Sound.{joined-sound}
@@ -14,15 +14,13 @@ pub returns-then-version-writes : need.returns-then-version-writes
 returns-then-version-writes g c =
     let l = g .A·Source .list (c .args .self .now .first) in
     let m = g .B·Source .list (c .args .self .now .second) in
-    let w = whole (c .args .cell) (c .length .result) (c .earlier-writes .result) l (c .length .ensures) (c .earlier-writes .ensures) in
-    c .readers-readers .ensures ∙ sym (readers-before (c .args .cell) (c .args .version) l (fitting-after l m) (omega (arith, w, c .if-version-writes .taken)))
+    c .readers-readers .ensures ∙ sym (readers-before (c .args .cell) (c .args .version) l (fitting-after l m) (omega (arith, c .writes-writes .ensures .answer, c .if-version-writes .taken)))
 
 sum : (g : Over) (c : need.After-readers g) → c .readers-readers .result + c .readers .result ≡ readers (c .args .cell) (c .args .version) (joined (g .A·Source .list (c .args .self .now .first)) (g .B·Source .list (c .args .self .now .second)))
 sum g c =
     let l = g .A·Source .list (c .args .self .now .first) in
     let m = g .B·Source .list (c .args .self .now .second) in
-    let w = whole (c .args .cell) (c .length .result) (c .earlier-writes .result) l (c .length .ensures) (c .earlier-writes .ensures) in
-    omega (arith, c .readers-readers .ensures, c .readers .ensures, readers-after (c .args .cell) (c .args .version) (c .earlier-writes .result) l m w (c .if-version-writes .left) (c .if-not-fits .ensures tt))
+    omega (arith, c .readers-readers .ensures, c .readers .ensures, readers-after (c .args .cell) (c .args .version) (c .writes-writes .result) l m (c .writes-writes .ensures .answer) (c .if-version-writes .left) (c .if-not-fits .ensures tt))
 
 pub add-result : need.add-result
 add-result g c =

@@ -5,7 +5,7 @@ use Rattle.std.specs.Options.{mapped}
 use Rattle.std.specs.declared.option.Option.the-variants.{Some}
 use Rattle.sources.proofs.Bounds.{writer-few}
 use Rattle.sources.specs.Questions.{writer}
-use Rattle.layers.proofs.Afters.{whole, writer-after, writer-alone}
+use Rattle.layers.proofs.Afters.{writer-after, writer-alone}
 use Rattle.layers.proofs.Joined.{writer-before}
 use Rattle.layers.specs.Lists.{fitting-after, joined}
 use Rattle.layers.specs.Sound.{joined-sound}
@@ -16,32 +16,28 @@ pub returns-then-count-writes : need.returns-then-count-writes
 returns-then-count-writes g c =
     let l = g .A·Source .list (c .args .self .now .first) in
     let m = g .B·Source .list (c .args .self .now .second) in
-    let w = whole (c .args .cell) (c .length-length .result) (c .earlier-writes .result) l (c .length-length .ensures) (c .earlier-writes .ensures) in
-    c .writer .ensures ∙ sym (writer-before (c .args .cell) (c .args .count) l (fitting-after l m) (omega (arith, w, c .if-count-writes .taken)))
+    c .writer .ensures ∙ sym (writer-before (c .args .cell) (c .args .count) l (fitting-after l m) (omega (arith, c .writes-writes .ensures .answer, c .if-count-writes .taken)))
 
 pub returns-then-not-fits : need.returns-then-not-fits
 returns-then-not-fits g c =
     let l = g .A·Source .list (c .args .self .now .first) in
     let m = g .B·Source .list (c .args .self .now .second) in
-    let w = whole (c .args .cell) (c .length-length .result) (c .earlier-writes .result) l (c .length-length .ensures) (c .earlier-writes .ensures) in
-    writer-alone (c .args .cell) (c .args .count) (c .earlier-writes .result) l m w (c .if-count-writes .left) (c .if-not-fits .ensures tt)
+    writer-alone (c .args .cell) (c .args .count) (c .writes-writes .result) l m (c .writes-writes .ensures .answer) (c .if-count-writes .left) (c .if-not-fits .ensures tt)
 
 pub returns-in-Break-position : need.returns-in-Break-position
 returns-in-Break-position g c =
     let l = g .A·Source .list (c .args .self .now .first) in
     let m = g .B·Source .list (c .args .self .now .second) in
-    let w = whole (c .args .cell) (c .length-length .result) (c .earlier-writes .result) l (c .length-length .ensures) (c .earlier-writes .ensures) in
     c .from-residual .ensures
     ∙ (ap (mapped (λ q. c .length-length .result + q)) (c .in-Break-position .ensures tt)
-    ∙ writer-after (c .args .cell) (c .args .count) (c .length-length .result) (c .earlier-writes .result) l m (c .length-length .ensures) w (c .if-count-writes .left) (c .if-not-fits .ensures tt))
+    ∙ writer-after (c .args .cell) (c .args .count) (c .length-length .result) (c .writes-writes .result) l m (c .length-length .ensures) (c .writes-writes .ensures .answer) (c .if-count-writes .left) (c .if-not-fits .ensures tt))
 
 found : (g : Over) (c : need.In-Continue-position g) → Some (c .length-length .result + c .in-Continue-position .position) ≡ writer (c .args .cell) (c .args .count) (joined (g .A·Source .list (c .args .self .now .first)) (g .B·Source .list (c .args .self .now .second)))
 found g c =
     let l = g .A·Source .list (c .args .self .now .first) in
     let m = g .B·Source .list (c .args .self .now .second) in
-    let w = whole (c .args .cell) (c .length-length .result) (c .earlier-writes .result) l (c .length-length .ensures) (c .earlier-writes .ensures) in
     ap (mapped (λ q. c .length-length .result + q)) (c .in-Continue-position .ensures tt)
-    ∙ writer-after (c .args .cell) (c .args .count) (c .length-length .result) (c .earlier-writes .result) l m (c .length-length .ensures) w (c .if-count-writes .left) (c .if-not-fits .ensures tt)
+    ∙ writer-after (c .args .cell) (c .args .count) (c .length-length .result) (c .writes-writes .result) l m (c .length-length .ensures) (c .writes-writes .ensures .answer) (c .if-count-writes .left) (c .if-not-fits .ensures tt)
 
 pub add-result : need.add-result
 add-result g c =

@@ -4,7 +4,6 @@ use native.Mathlib.Omega.{arith}
 use lib.ListN.{length}
 use Rattle.sources.proofs.Bounds.{earlier-few}
 use Rattle.sources.specs.Questions.{earlier}
-use Rattle.layers.proofs.Afters.{whole}
 use Rattle.layers.proofs.Repeated.{earlier-turn}
 use Rattle.layers.specs.Lists.{repeated, turns}
 use Rattle.layers.specs.Sound.{length-copies, repeated-sound}
@@ -19,16 +18,15 @@ returns-then-length-eq0 g c =
     omega (arith, earlier-few (c .args .cell) (c .args .position) (repeated (c .args .self .now .times) l), length-copies r l, ap (λ (n : ℕ). r * n) none)
 
 -- the sum, as an answer over the whole list
-sum : (g : Over) (c : need.After-earlier-rest g) → c .min-position .result / c .length-length .result * c .earlier-writes .result + c .earlier-rest .result ≡ earlier (c .args .cell) (c .args .position) (repeated (c .args .self .now .times) (g .S·Source .list (c .args .self .now .below)))
+sum : (g : Over) (c : need.After-earlier-rest g) → c .min-position .result / c .length-length .result * c .writes-writes .result + c .earlier-rest .result ≡ earlier (c .args .cell) (c .args .position) (repeated (c .args .self .now .times) (g .S·Source .list (c .args .self .now .below)))
 sum g c =
     let l = g .S·Source .list (c .args .self .now .below) in
     let n = c .length-length .result in
     let k = c .min-position .result in
-    let w = whole (c .args .cell) n (c .earlier-writes .result) l (c .length-length .ensures) (c .earlier-writes .ensures) in
-    ap (λ (j : ℕ). k / n * c .earlier-writes .result + j) (c .earlier-rest .ensures)
-    ∙ earlier-turn (c .args .cell) (turns (c .args .self .now .times) (length l)) (c .args .position) n (c .length .result) k (c .earlier-writes .result) l (c .length-length .ensures) (c .length .ensures) (c .min-position .ensures) w (omega arith)
+    ap (λ (j : ℕ). k / n * c .writes-writes .result + j) (c .earlier-rest .ensures)
+    ∙ earlier-turn (c .args .cell) (turns (c .args .self .now .times) (length l)) (c .args .position) n (c .length .result) k (c .writes-writes .result) l (c .length-length .ensures) (c .length .ensures) (c .min-position .ensures) (c .writes-writes .ensures .answer) (omega arith)
 
-small : (g : Over) (c : need.After-earlier-rest g) → c .min-position .result / c .length-length .result * c .earlier-writes .result + c .earlier-rest .result ≤ 65535
+small : (g : Over) (c : need.After-earlier-rest g) → c .min-position .result / c .length-length .result * c .writes-writes .result + c .earlier-rest .result ≤ 65535
 small g c =
     let s = c .args .self .now .below in
     let l = g .S·Source .list s in

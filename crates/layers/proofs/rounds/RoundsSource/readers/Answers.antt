@@ -6,7 +6,6 @@ use lib.ListN.{length}
 use Rattle.std.proofs.shelf.Tests.{eq-eqb, ne-eqb}
 use Rattle.sources.proofs.Bounds.{readers-few}
 use Rattle.sources.specs.Questions.{readers}
-use Rattle.layers.proofs.Afters.{whole}
 use Rattle.layers.proofs.Repeated.{in-turn, readers-turn, readers-turn-first, readers-unwritten}
 use Rattle.layers.specs.Lists.{repeated, turns}
 use Rattle.layers.specs.Sound.{repeated-sound}
@@ -18,10 +17,9 @@ product : (g : Over) (c : need.After-readers g) → c .turns .result * c .reader
 product g c =
     let l = g .S·Source .list (c .args .self .now .below) in
     let r = turns (c .args .self .now .times) (length l) in
-    let w = whole (c .args .cell) (c .length .result) (c .earlier-writes .result) l (c .length .ensures) (c .earlier-writes .ensures) in
     ap (λ (t : ℕ). t * c .readers .result) (c .turns .ensures)
     ∙ (ap (λ (n : ℕ). r * n) (c .readers .ensures)
-    ∙ sym (readers-unwritten (c .args .cell) (c .args .version) r l (sym w ∙ c .if-writes-eq0 .taken)))
+    ∙ sym (readers-unwritten (c .args .cell) (c .args .version) r l (sym (c .writes-writes .ensures .answer) ∙ c .if-writes-eq0 .taken)))
 
 pub mul-result : need.mul-result
 mul-result g c =
@@ -36,20 +34,18 @@ pub returns-then-turn-eq0 : need.returns-then-turn-eq0
 returns-then-turn-eq0 g c =
     let l = g .S·Source .list (c .args .self .now .below) in
     let r = turns (c .args .self .now .times) (length l) in
-    let w = whole (c .args .cell) (c .length .result) (c .earlier-writes .result) l (c .length .ensures) (c .earlier-writes .ensures) in
-    c .readers-in-readers .ensures ∙ sym (readers-turn-first (c .args .cell) r (c .args .version) (c .earlier-writes .result) l w (omega arith) (c .if-turn-eq0 .taken))
+    c .readers-in-readers .ensures ∙ sym (readers-turn-first (c .args .cell) r (c .args .version) (c .writes-writes .result) l (c .writes-writes .ensures .answer) (omega arith) (c .if-turn-eq0 .taken))
 
 pub returns-then-version-writes-gt0 : need.returns-then-version-writes-gt0
 returns-then-version-writes-gt0 g c =
     let l = g .S·Source .list (c .args .self .now .below) in
     let r = turns (c .args .self .now .times) (length l) in
     let v = c .args .version in
-    let n = c .earlier-writes .result in
-    let w = whole (c .args .cell) (c .length .result) n l (c .length .ensures) (c .earlier-writes .ensures) in
+    let n = c .writes-writes .result in
     omega (
       arith,
       c .readers-in-readers .ensures,
-      readers-turn (c .args .cell) r v n l w (omega arith) (omega arith),
+      readers-turn (c .args .cell) r v n l (c .writes-writes .ensures .answer) (omega arith) (omega arith),
       ap (λ (t : Bool). cond t (in-turn r (v / n - 1) (c .args .cell) n l) 0) (ne-eqb (v % n) 0 (λ z. omega (arith, c .if-version-writes-gt0 .taken))),
     )
 
@@ -59,13 +55,12 @@ sum g c =
     let l = g .S·Source .list (c .args .self .now .below) in
     let r = turns (c .args .self .now .times) (length l) in
     let v = c .args .version in
-    let n = c .earlier-writes .result in
-    let w = whole (c .args .cell) (c .length .result) n l (c .length .ensures) (c .earlier-writes .ensures) in
+    let n = c .writes-writes .result in
     omega (
       arith,
       c .readers-in-readers .ensures,
       c .readers-in .ensures,
-      readers-turn (c .args .cell) r v n l w (omega arith) (omega arith),
+      readers-turn (c .args .cell) r v n l (c .writes-writes .ensures .answer) (omega arith) (omega arith),
       ap (λ (t : Bool). cond t (in-turn r (v / n - 1) (c .args .cell) n l) 0) (eq-eqb (v % n) 0 (omega (arith, c .if-version-writes-gt0 .left))),
     )
 
