@@ -2,7 +2,7 @@
 use mathlib.Core.Path.{_≡_, refl, sym, ap, _∙_}
 use mathlib.Core.Bool.{Bool, true, false, cond, not}
 use mathlib.Core.List.{List, [], _++_, append-nil}
-use Prim.Native.Nat.{ℕ, _+_, _-_, _<_, _≤_}
+use Prim.Native.Nat.{ℕ, _+_, _-_, _≤_}
 use native.Mathlib.Omega.{arith}
 use lib.Dec.{ltb}
 use lib.ListN.{length, length-append}
@@ -28,10 +28,10 @@ alone : (t : Bool) (l m : List Instance) → false ≡ not t → l ++ cond t [] 
 alone true l m e = append-nil l
 alone false l m e = cc
 
-pub both : (l m : List Instance) → Fit l m true → joined l m ≡ l ++ m
+both : (l m : List Instance) → Fit l m true → joined l m ≡ l ++ m
 both l m f = after (ltb 65535 (length l + length m)) l m f
 
-pub first-alone : (l m : List Instance) → Fit l m false → joined l m ≡ l
+first-alone : (l m : List Instance) → Fit l m false → joined l m ≡ l
 first-alone l m f = alone (ltb 65535 (length l + length m)) l m f
 
 pub length-both : (l m : List Instance) → Fit l m true → length l + length m ≡ length (joined l m)

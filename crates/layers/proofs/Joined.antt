@@ -1,6 +1,6 @@
 -- The questions to one list after another.
 use mathlib.Core.Path.{_≡_, refl, sym, ap, _∙_}
-use mathlib.Core.Bool.{Bool, true, false, cond, _&&_}
+use mathlib.Core.Bool.{Bool, false, cond, _&&_}
 use mathlib.Core.List.{List, [], _∷_, _++_}
 use mathlib.Core.Logic.{inl, inr}
 use Prim.Native.Nat.{ℕ, zero, suc, _+_, _-_, _<_, _≤_}
@@ -8,15 +8,14 @@ use native.Mathlib.Omega.{arith}
 use lib.Dec.{eqb}
 use lib.ListN.{length, length-append}
 use Rattle.std.proofs.shelf.Tests.{cases-eq, eq-eqb, ne-eqb}
-use Rattle.std.specs.Options.{isSome, mapped, orOther, valueOr}
+use Rattle.std.specs.Options.{mapped, orOther, valueOr}
 use Rattle.std.specs.declared.option.Option.{Option}
-use Rattle.std.specs.declared.option.Option.the-variants.{None, Some}
 use Rattle.std.specs.shelf.Maps.{nth}
 use Rattle.records.specs.Instance.{Instance}
 use Rattle.sources.proofs.Readers.{version-slots}
 use Rattle.sources.proofs.Searches.{least-same, least-split}
 use Rattle.sources.proofs.Totals.{total-none, total-same, total-split}
-use Rattle.sources.proofs.Writers.{earlier-none, earlier-past, is-writer, writer-absent, writer-there}
+use Rattle.sources.proofs.Writers.{is-writer, writer-absent, writer-there}
 use Rattle.sources.specs.Numbers.{least, total}
 use Rattle.sources.specs.Questions.{earlier, readers, slots-at, slots-of, writer, writes, writes-at}
 

@@ -11,10 +11,10 @@ use sources::Parts;
 use sources::Source;
 use sources::SourceCounts;
 use sources::SourceParts;
-use sources::WrittenList;
-use sources::WrittenListSource;
 use std::error::AnyError;
 use std::io;
+use written::WrittenList;
+use written::WrittenListSource;
 
 /// Rows over cells 0 to 2: the second reads its own cell in two slots, the third the cell that it writes.
 const ROWS: [Row; 4] = [

@@ -7,10 +7,10 @@ use layers::RoundsSource;
 use records::Row;
 use sources::BorrowedSource;
 use sources::Source;
-use sources::WrittenList;
-use sources::WrittenListSource;
-use sources::fault::RowsFaultDebug;
 use std::test::*;
+use written::WrittenList;
+use written::WrittenListSource;
+use written::fault::RowsFaultDebug;
 
 /// Cell 1 gets the sum of itself, twice, and cell 0.
 const OWN: Row = Row {

@@ -1,13 +1,13 @@
 //! Written lists: which rows are refused, and what is then held.
 use records::Row;
-use sources::MOST_ROWS;
-use sources::RowsFault;
 use sources::Source;
-use sources::WrittenList;
-use sources::WrittenListSource;
-use sources::fault::RowsFaultDebug;
-use sources::fault::RowsFaultPartialEq;
 use std::test::*;
+use written::MOST_ROWS;
+use written::RowsFault;
+use written::WrittenList;
+use written::WrittenListSource;
+use written::fault::RowsFaultDebug;
+use written::fault::RowsFaultPartialEq;
 
 /// A row that writes cell 0 and reads nothing.
 const PLAIN: Row = Row {

@@ -1,5 +1,5 @@
 -- No answer of a sound source is large.
-use mathlib.Core.Path.{_≡_, refl, ap}
+use mathlib.Core.Path.{_≡_}
 use mathlib.Core.Bool.{Bool, true, false, cond}
 use mathlib.Core.List.{List, [], _∷_}
 use Prim.Native.Nat.{ℕ, zero, suc, _+_, _*_, _<_, _≤_}
@@ -40,7 +40,7 @@ pub versions-few : (c n C : ℕ) (l : List Instance) → Sound C l → total (λ
 unfolding read-slots
 versions-few c n C l s = omega (arith, s .short, versions-within c n l, total-at-most (slots-at c l) 5 (length l) (λ p b. slots-few c C p l (s .fitting)))
 
-pub writes-few : (c : ℕ) (l : List Instance) → writes c l ≤ length l
+writes-few : (c : ℕ) (l : List Instance) → writes c l ≤ length l
 unfolding earlier
 writes-few c l = omega (arith, total-at-most (λ q. cond (writes-at c l q) 1 0) 1 (length l) (λ p b. if-few (writes-at c l p) 1 1 (omega arith)))
 

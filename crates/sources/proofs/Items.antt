@@ -4,7 +4,7 @@ use mathlib.Core.List.{List, [], _∷_, map}
 use Prim.Native.Nat.{ℕ, zero, suc}
 use denote.Ref.{RefT, now}
 use Rattle.std.proofs.shelf.Maps.{nth-getD, nth-past}
-use Rattle.std.specs.Options.{Cases, mapped}
+use Rattle.std.specs.Options.{mapped}
 use Rattle.std.specs.Places.{Item}
 use Rattle.std.specs.declared.option.Option.{Option}
 use Rattle.std.specs.declared.option.Option.the-variants.{None, Some}

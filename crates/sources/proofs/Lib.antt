@@ -4,4 +4,3 @@ pub mod Items
 pub mod Writers
 pub mod Readers
 pub mod Bounds
-mod Rows

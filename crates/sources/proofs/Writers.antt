@@ -2,23 +2,23 @@
 use mathlib.Core.Path.{_≡_, refl, sym, ap, _∙_}
 use mathlib.Core.Bool.{Bool, true, false, cond, _&&_}
 use mathlib.Core.List.{List}
-use mathlib.Core.Logic.{_⊎_, inl, inr}
+use mathlib.Core.Logic.{inl, inr}
 use Prim.Native.Nat.{ℕ, zero, suc, _+_, _-_, _<_, _≤_}
 use native.Mathlib.Omega.{arith}
 use lib.Dec.{eqb, ltb}
 use lib.ListN.{length}
 use Rattle.std.proofs.shelf.Maps.{nth-past}
-use Rattle.std.proofs.shelf.Tests.{and-from, and-parts, cases-eq, cases-lt, cases-order, eq-eqb, eqb-true, false≢true, le-ltb, lt-ltb, ltb-false, ltb-true, ne-eqb}
+use Rattle.std.proofs.shelf.Tests.{and-parts, cases-eq, cases-lt, cases-order, eq-eqb, eqb-true, false≢true, le-ltb, lt-ltb, ltb-false, ltb-true, ne-eqb}
 use Rattle.std.specs.Options.{isSome, mapped, orOther, valueOr, whenTrue}
 use Rattle.std.specs.declared.option.Option.{Option}
 use Rattle.std.specs.declared.option.Option.the-variants.{None, Some}
 use Rattle.std.specs.shelf.Maps.{nth}
 use Rattle.records.specs.Instance.{Instance}
-use Rattle.sources.proofs.Searches.{least-fails, least-passes}
+use Rattle.sources.proofs.Searches.{least-passes}
 use Rattle.sources.proofs.Totals.{total-grows, total-none, total-split}
 use Rattle.sources.specs.Laws.{Writer-counted, Writer-exact}
 use Rattle.sources.specs.Numbers.{least, total}
-use Rattle.sources.specs.Questions.{earlier, writer, writes, writes-at, written-at}
+use Rattle.sources.specs.Questions.{earlier, writer, writes, writes-at}
 
 -- does the instance at p write c after exactly k earlier ones wrote c
 abbrev pub is-writer : ℕ → ℕ → List Instance → ℕ → Bool
@@ -33,7 +33,7 @@ pub earlier-none : (c : ℕ) (l : List Instance) → earlier c 0 l ≡ 0
 unfolding earlier total
 earlier-none c l = refl
 
-pub earlier-grows : (c p q : ℕ) (l : List Instance) → p ≤ q → earlier c p l ≤ earlier c q l
+earlier-grows : (c p q : ℕ) (l : List Instance) → p ≤ q → earlier c p l ≤ earlier c q l
 unfolding earlier
 earlier-grows c p q l h = total-grows (λ q. cond (writes-at c l q) 1 0) p q h
 
@@ -65,12 +65,12 @@ found-step k n e None true h =
       | inr ne ↦ ap (λ (t : Bool). isSome (whenTrue t n)) (ne-eqb e k ne) ∙ sym (le-ltb k (e + 1) (omega (arith, ltb-false k e (sym h))))
     ]
 
-pub writer-found : (c k n : ℕ) (l : List Instance) → isSome (least (is-writer c k l) n) ≡ ltb k (earlier c n l)
+writer-found : (c k n : ℕ) (l : List Instance) → isSome (least (is-writer c k l) n) ≡ ltb k (earlier c n l)
 unfolding least
 writer-found c k zero l = sym (le-ltb k (earlier c 0 l) (omega (arith, earlier-none c l)))
 writer-found c k (suc n) l = found-step k n (earlier c n l) (least (is-writer c k l) n) (writes-at c l n) (writer-found c k n l) ∙ sym (ap (ltb k) (earlier-next c n l))
 
-pub writer-some : (c k : ℕ) (l : List Instance) → isSome (writer c k l) ≡ ltb k (writes c l)
+writer-some : (c k : ℕ) (l : List Instance) → isSome (writer c k l) ≡ ltb k (writes c l)
 unfolding writer
 writer-some c k l = writer-found c k (length l) l
 

@@ -1,5 +1,3 @@
-use mathlib.Core.Path.{_≡_, ap, _∙_}
-use Prim.Native.Nat.{ℕ, _+_}
 use native.Mathlib.Omega.{arith}
 use Rattle.layers.proofs.Afters.{length-both}
 use Rattle.layers.proofs.after.AfterSource.length.Needs as need

@@ -2,7 +2,7 @@ use mathlib.Core.Path.{_≡_, sym, _∙_}
 use Prim.Native.Nat.{_+_}
 use native.Mathlib.Omega.{arith}
 use Rattle.sources.proofs.Bounds.{readers-few}
-use Rattle.sources.specs.Questions.{readers, writes}
+use Rattle.sources.specs.Questions.{readers}
 use Rattle.layers.proofs.Afters.{readers-after}
 use Rattle.layers.proofs.Joined.{readers-before}
 use Rattle.layers.specs.Lists.{fitting-after, joined}

@@ -34,7 +34,7 @@ pub returns-then-turn-eq0 : need.returns-then-turn-eq0
 returns-then-turn-eq0 g c =
     let l = g .S·Source .list (c .args .self .now .below) in
     let r = turns (c .args .self .now .times) (length l) in
-    c .readers-in-readers .ensures ∙ sym (readers-turn-first (c .args .cell) r (c .args .version) (c .writes-writes .result) l (c .writes-writes .ensures .answer) (omega arith) (c .if-turn-eq0 .taken))
+    omega (arith, c .readers-in-readers .ensures, readers-turn-first (c .args .cell) r (c .args .version) (c .writes-writes .result) l (c .writes-writes .ensures .answer) (omega arith) (c .if-turn-eq0 .taken))
 
 pub returns-then-version-writes-gt0 : need.returns-then-version-writes-gt0
 returns-then-version-writes-gt0 g c =

@@ -1,7 +1,0 @@
-use mathlib.Core.Path.{sym, _∙_}
-use native.Mathlib.Omega.{arith}
-use Rattle.sources.proofs.Rows.{misfit-below}
-use Rattle.sources.proofs.written.WrittenList.load.Needs as need
-
-pub add-result : need.add-result
-add-result c = omega (arith, misfit-below (c .args .cells) (c .args .rows .now) (c .in-Some .position) (sym (c .in-Some .ensures tt)))
