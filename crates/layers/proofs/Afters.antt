@@ -20,13 +20,25 @@ use Rattle.layers.specs.Lists.{joined}
 abbrev pub Fit : List Instance → List Instance → Bool → Type 0
 Fit l m b = b ≡ not (ltb 65535 (length l + length m))
 
-after : (t : Bool) (l m : List Instance) → true ≡ not t → l ++ cond t [] m ≡ l ++ m
+after : (t : Bool) (l m : List Instance) → true ≡ not t → cond t l (l ++ m) ≡ l ++ m
 after true l m e = cc
 after false l m e = refl
 
-alone : (t : Bool) (l m : List Instance) → false ≡ not t → l ++ cond t [] m ≡ l
-alone true l m e = append-nil l
+alone : (t : Bool) (l m : List Instance) → false ≡ not t → cond t l (l ++ m) ≡ l
+alone true l m e = refl
 alone false l m e = cc
+
+-- what comes after the first list
+abbrev pub rest-of : List Instance → List Instance → List Instance
+rest-of l m = cond (ltb 65535 (length l + length m)) [] m
+
+with-rest : (t : Bool) (l m : List Instance) → cond t l (l ++ m) ≡ l ++ cond t [] m
+with-rest true l m = sym (append-nil l)
+with-rest false l m = refl
+
+-- the first list stands first in any case
+pub first-stands : (l m : List Instance) → joined l m ≡ l ++ rest-of l m
+first-stands l m = with-rest (ltb 65535 (length l + length m)) l m
 
 both : (l m : List Instance) → Fit l m true → joined l m ≡ l ++ m
 both l m f = after (ltb 65535 (length l + length m)) l m f

@@ -19,7 +19,7 @@ use Rattle.sources.proofs.Writers.{earlier-none, earlier-past, writer-absent}
 use Rattle.sources.specs.Numbers.{total}
 use Rattle.sources.specs.Questions.{earlier, readers, writer, writes}
 use Rattle.layers.proofs.Joined.{earlier-left, earlier-right, nth-left, nth-right, readers-before, readers-from, writer-before, writer-from, writes-append}
-use Rattle.layers.specs.Lists.{copies}
+use Rattle.layers.specs.Lists.{copies, in-turn}
 use Rattle.layers.specs.Sound.{length-copies}
 
 -- position e of the list below, in turn q
@@ -124,10 +124,6 @@ readers-unwritten c v (suc r) l z =
     readers-from c v l (copies r l) (omega arith)
     ∙ (ap (λ (k : ℕ). readers c v l + readers c k (copies r l)) same
     ∙ omega (arith, readers-unwritten c v r l z))
-
--- the readers in turn q, if there is one
-abbrev pub in-turn : ℕ → ℕ → ℕ → ℕ → List Instance → ℕ
-in-turn r q c v l = cond (ltb q r) (readers c v l) 0
 
 ltb-suc : (q r : ℕ) → ltb (suc q) (suc r) ≡ ltb q r
 ltb-suc q r =

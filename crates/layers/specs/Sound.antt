@@ -1,7 +1,7 @@
 -- The layers over sound sources are sound.
 use mathlib.Core.Path.{_≡_, refl}
 use mathlib.Core.Bool.{Bool, true, false, cond}
-use mathlib.Core.List.{List, [], _++_}
+use mathlib.Core.List.{List, _++_}
 use Prim.Native.Nat.{ℕ, zero, suc, _+_, _*_, _/_, _≤_, _<_, max, min}
 use native.Mathlib.Omega.{arith}
 use lib.Dec.{ltb}
@@ -12,7 +12,7 @@ use Rattle.std.proofs.shelf.Tests.{ltb-false}
 use Rattle.std.specs.shelf.Lists.{All}
 use Rattle.records.specs.Instance.{Instance}
 use Rattle.sources.specs.Sound.{Fitting, Sound}
-use Rattle.layers.specs.Lists.{copies, fitting-after, joined, repeated, turns}
+use Rattle.layers.specs.Lists.{copies, joined, repeated, turns}
 
 pub length-copies : (n : ℕ) (l : List Instance) → length (copies n l) ≡ n * length l
 unfolding copies
@@ -53,13 +53,16 @@ joined-sound C D l m s t =
       some-cells = omega (arith, s .some-cells);
       few-cells = omega (arith, s .few-cells, t .few-cells);
       short = short (ltb 65535 (length l + length m)) refl;
-      fitting = all-append (Fitting (max C D)) l (fitting-after l m) (all-weaker (Fitting C) (Fitting (max C D)) (fits-more C (max C D) (omega arith)) l (s .fitting)) (after (ltb 65535 (length l + length m)));
+      fitting = fit (ltb 65535 (length l + length m));
     }
   where
-    short : (b : Bool) → ltb 65535 (length l + length m) ≡ b → length (l ++ cond b [] m) ≤ 65535
-    short true e = omega (arith, length-append l [], s .short)
+    short : (b : Bool) → ltb 65535 (length l + length m) ≡ b → length (cond b l (l ++ m)) ≤ 65535
+    short true e = s .short
     short false e = omega (arith, length-append l m, ltb-false 65535 (length l + length m) e)
 
-    after : (b : Bool) → All (Fitting (max C D)) (cond b [] m)
-    after true = tt
-    after false = all-weaker (Fitting D) (Fitting (max C D)) (fits-more D (max C D) (omega arith)) m (t .fitting)
+    first : All (Fitting (max C D)) l
+    first = all-weaker (Fitting C) (Fitting (max C D)) (fits-more C (max C D) (omega arith)) l (s .fitting)
+
+    fit : (b : Bool) → All (Fitting (max C D)) (cond b l (l ++ m))
+    fit true = first
+    fit false = all-append (Fitting (max C D)) l m first (all-weaker (Fitting D) (Fitting (max C D)) (fits-more D (max C D) (omega arith)) m (t .fitting))

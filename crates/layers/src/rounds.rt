@@ -1,10 +1,7 @@
 //! Rounds: a source's list, several times over.
 ghost use mathlib.Core.Path.{_≡_};
-ghost use mathlib.Core.Bool.{cond};
-ghost use lib.Dec.{ltb};
 ghost use lib.ListN.{length};
-ghost use Rattle.sources.specs.Questions.{readers};
-ghost use Rattle.layers.specs.Lists.{repeated, turns};
+ghost use Rattle.layers.specs.Lists.{in-turn, repeated, turns};
 ghost use Rattle.layers.specs.Sound.{repeated-sound};
 use records::Record;
 use sources::Counts;
@@ -42,7 +39,7 @@ impl<S: Source> Rounds<S> {
 
     /// The readers of `cell` at this version of the list below, in one turn; none where there is no such turn.
     fn readers_in(&self, turn: u32, cell: u16, version: u32) -> u32
-        ensures { λ r. ⌜ r ≡ cond (ltb turn (turns (now (self .entry) .times) (length (S·Source .list (now (self .entry) .below))))) (readers cell version (S·Source .list (now (self .entry) .below))) 0 ⌝ }
+        ensures { λ r. ⌜ r ≡ in-turn (turns (now (self .entry) .times) (length (S·Source .list (now (self .entry) .below)))) turn cell version (S·Source .list (now (self .entry) .below)) ⌝ }
     {
         if turn >= self.turns() {
             return 0;

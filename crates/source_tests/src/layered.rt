@@ -44,7 +44,17 @@ const SET: Row = Row {
     reads: [7, 7, 7, 7, 7],
 };
 
-/// Layers three deep, by copies and by references, against the list that they mean.
+/// Cell `to` gets cell `from`.
+fn copy(to: u16, from: u16) -> Row {
+    Row {
+        operator: 0,
+        written: to,
+        count: 1,
+        reads: [from, 7, 7, 7, 7],
+    }
+}
+
+/// Layers three deep over borrowed sources, against the list that they mean.
 fn check_deep<A, B, P>(a: &A, b: &B, plain: &P) -> Result<(), Fail>
 where
     A: Source,
@@ -95,6 +105,22 @@ fn three_deep() -> Result<(), Fail> {
         COPY,
     ];
     check_rows(&rows)
+}
+
+#[test]
+fn a_shift_twice_over() -> Result<(), Fail> {
+    // Cells 0, 1 and 2 get cells 1, 2 and 3.
+    let rows = [copy(0, 1), copy(1, 2), copy(2, 3)];
+    let mut list = WrittenList::new();
+    list.load(4, &rows)?;
+    check_eq(list.cells(), 4)?;
+    check_eq(list.length(), 3)?;
+    let twice = Rounds::new(list, 2);
+    check_eq(twice.length(), 6)?;
+    check_eq(twice.readers(1, 0), 1)?;
+    check_eq(twice.readers(1, 1), 1)?;
+    check_eq(twice.readers(1, 2), 0)?;
+    check_eq(twice.writer(0, 1), Some(3))
 }
 
 #[test]

@@ -17,16 +17,19 @@ abbrev pub slot-of : ℕ → Instance → Option ℕ
 slot-of zero i = Some (i .written)
 slot-of (suc k) i = nth (i .reads) k
 
--- the parts of the instance at p, each absent where there is none
+-- the operator of the instance at p, absent where there is none
 abbrev pub operator-at : List Instance → ℕ → Option ℕ
 operator-at l p = mapped (λ (i : Instance). i .operator) (nth l p)
 
+-- the cell that the instance at p writes
 abbrev pub written-at : List Instance → ℕ → Option ℕ
 written-at l p = mapped (λ (i : Instance). i .written) (nth l p)
 
+-- how many cells the instance at p reads
 abbrev pub reads-at : List Instance → ℕ → Option ℕ
 reads-at l p = mapped (λ (i : Instance). length (i .reads)) (nth l p)
 
+-- the cell in a slot of the instance at p, absent where there is no such position or slot
 abbrev pub cell-at : List Instance → ℕ → ℕ → Option ℕ
 cell-at l p slot = flattened (mapped (slot-of slot) (nth l p))
 

@@ -14,7 +14,8 @@ pub trait Counts: Source {
         self.earlier(cell, self.length())
     }
 
-    /// How often the cell that the instance at a position writes was written before it: the count at which `writer` answers this position.
+    /// How many earlier instances write the cell that the one at a position writes: the count at which `writer` answers
+    /// this position.
     fn count_at(&self, position: u32) -> Option<u32>
         ensures answer { λ r. ⌜ r ≡ count-at (Self·Source .list (now (self .entry))) position ⌝ }
         ensures law { λ _. ⌜ Writer-exact ⌝ }

@@ -54,13 +54,13 @@ held-after (Ok x) new old = new
 held-after (Err e) new old = old
 
 -- the number of each refusal
-abbrev pub rows-number : RowsFault → ℕ
-rows-number TooMany = 21
-rows-number Cells = 22
-rows-number (Misfit «row») = 22
+abbrev pub number-of : RowsFault → ℕ
+number-of TooMany = 21
+number-of Cells = 22
+number-of (Misfit «row») = 22
 
 -- the row that each names, from 1; 0 where it names none
-abbrev pub rows-place : RowsFault → ℕ
-rows-place TooMany = 0
-rows-place Cells = 0
-rows-place (Misfit «row») = «row»
+abbrev pub row-of : RowsFault → ℕ
+row-of TooMany = 0
+row-of Cells = 0
+row-of (Misfit «row») = «row»

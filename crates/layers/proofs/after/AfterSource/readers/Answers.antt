@@ -1,11 +1,11 @@
-use mathlib.Core.Path.{_≡_, sym, _∙_}
+use mathlib.Core.Path.{_≡_, sym, ap, _∙_}
 use Prim.Native.Nat.{_+_}
 use native.Mathlib.Omega.{arith}
 use Rattle.sources.proofs.Bounds.{readers-few}
 use Rattle.sources.specs.Questions.{readers}
-use Rattle.layers.proofs.Afters.{readers-after}
+use Rattle.layers.proofs.Afters.{first-stands, readers-after, rest-of}
 use Rattle.layers.proofs.Joined.{readers-before}
-use Rattle.layers.specs.Lists.{fitting-after, joined}
+use Rattle.layers.specs.Lists.{joined}
 use Rattle.layers.specs.Sound.{joined-sound}
 use Rattle.layers.proofs.after.AfterSource.readers.Given.{Over}
 use Rattle.layers.proofs.after.AfterSource.readers.Needs as need
@@ -14,7 +14,7 @@ pub returns-then-version-writes : need.returns-then-version-writes
 returns-then-version-writes g c =
     let l = g .A·Source .list (c .args .self .now .first) in
     let m = g .B·Source .list (c .args .self .now .second) in
-    c .readers-readers .ensures ∙ sym (readers-before (c .args .cell) (c .args .version) l (fitting-after l m) (omega (arith, c .writes-writes .ensures .answer, c .if-version-writes .taken)))
+    c .readers-readers .ensures ∙ sym (ap (readers (c .args .cell) (c .args .version)) (first-stands l m) ∙ readers-before (c .args .cell) (c .args .version) l (rest-of l m) (omega (arith, c .writes-writes .ensures .answer, c .if-version-writes .taken)))
 
 sum : (g : Over) (c : need.After-readers g) → c .readers-readers .result + c .readers .result ≡ readers (c .args .cell) (c .args .version) (joined (g .A·Source .list (c .args .self .now .first)) (g .B·Source .list (c .args .self .now .second)))
 sum g c =

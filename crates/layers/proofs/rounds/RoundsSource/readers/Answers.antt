@@ -6,8 +6,8 @@ use lib.ListN.{length}
 use Rattle.std.proofs.shelf.Tests.{eq-eqb, ne-eqb}
 use Rattle.sources.proofs.Bounds.{readers-few}
 use Rattle.sources.specs.Questions.{readers}
-use Rattle.layers.proofs.Repeated.{in-turn, readers-turn, readers-turn-first, readers-unwritten}
-use Rattle.layers.specs.Lists.{repeated, turns}
+use Rattle.layers.proofs.Repeated.{readers-turn, readers-turn-first, readers-unwritten}
+use Rattle.layers.specs.Lists.{in-turn, repeated, turns}
 use Rattle.layers.specs.Sound.{repeated-sound}
 use Rattle.layers.proofs.rounds.RoundsSource.readers.Given.{Over}
 use Rattle.layers.proofs.rounds.RoundsSource.readers.Needs as need
