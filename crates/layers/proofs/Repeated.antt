@@ -14,6 +14,7 @@ use Rattle.std.specs.declared.option.Option.{Option}
 use Rattle.std.specs.declared.option.Option.the-variants.{None, Some}
 use Rattle.std.specs.shelf.Maps.{nth}
 use Rattle.records.specs.Instance.{Instance}
+use Rattle.sources.proofs.Items.{mapped-twice}
 use Rattle.sources.proofs.Readers.{readers-past}
 use Rattle.sources.proofs.Writers.{earlier-none, earlier-past, writer-absent}
 use Rattle.sources.specs.Numbers.{total}
@@ -81,8 +82,7 @@ moved-none None n = refl
 moved-none (Some x) n = let e : x ≡ 0 * n + x = omega arith in ap Some e
 
 moved-more : (o : Option ℕ) (n q : ℕ) → mapped (λ p. n + p) (mapped (λ p. q * n + p) o) ≡ mapped (λ p. suc q * n + p) o
-moved-more None n q = refl
-moved-more (Some x) n q = let e : n + (q * n + x) ≡ suc q * n + x = omega arith in ap Some e
+moved-more o n q = mapped-twice (λ p. n + p) (λ p. q * n + p) (λ p. suc q * n + p) (λ p. omega arith) o
 
 writer-copies : (c r q e : ℕ) (l : List Instance) → q < r → e < writes c l → writer c (q * writes c l + e) (copies r l) ≡ mapped (λ p. q * length l + p) (writer c e l)
 unfolding copies

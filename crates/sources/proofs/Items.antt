@@ -10,6 +10,11 @@ use Rattle.std.specs.declared.option.Option.{Option}
 use Rattle.std.specs.declared.option.Option.the-variants.{None, Some}
 use Rattle.std.specs.shelf.Maps.{nth}
 
+-- one step after another, in one
+pub mapped-twice : {X Y Z : Type 0} (f : Y → Z) (g : X → Y) (h : X → Z) → ((x : X) → f (g x) ≡ h x) → (o : Option X) → mapped f (mapped g o) ≡ mapped h o
+mapped-twice f g h e None = refl
+mapped-twice f g h e (Some x) = ap Some (e x)
+
 -- what `get` answers
 pub item-nth : {X : Type 0} (xs : List X) (i : ℕ) (r : Option (RefT X)) → Item xs i i r → mapped now r ≡ nth xs i
 item-nth xs i None h = sym (nth-past xs i (h .3))

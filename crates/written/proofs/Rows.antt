@@ -26,7 +26,7 @@ use Rattle.records.specs.declared.fault.RecordFault.{RecordFault}
 use Rattle.records.specs.declared.fault.RecordFault.the-variants.{Operator, Reads}
 use Rattle.records.specs.declared.record.Record.{Record}
 use Rattle.records.specs.declared.row.Row.{Row}
-use Rattle.sources.proofs.Items.{nth-map}
+use Rattle.sources.proofs.Items.{mapped-twice, nth-map}
 use Rattle.sources.proofs.Readers.{version-slots}
 use Rattle.sources.proofs.Totals.{total-more, total-same}
 use Rattle.sources.proofs.Writers.{earlier-next, earlier-past}
@@ -46,8 +46,7 @@ abbrev pub moved : ℕ → Option ℕ → Option ℕ
 moved n o = mapped (λ k. n + k) o
 
 moved-more : (n : ℕ) (o : Option ℕ) → moved n (mapped suc o) ≡ moved (n + 1) o
-moved-more n None = refl
-moved-more n (Some x) = let e : n + suc x ≡ (n + 1) + x = omega arith in ap Some e
+moved-more n o = mapped-twice (λ k. n + k) suc (λ k. (n + 1) + k) (λ k. omega arith) o
 
 pub misfit-yes : (C n : ℕ) (r : Row) (rs : List Row) → row-fits C r ≡ false → moved n (first-misfit C (r ∷ rs)) ≡ Some n
 misfit-yes C n r rs e = ap (λ (t : Bool). moved n (cond t (mapped suc (first-misfit C rs)) (Some 0))) e ∙ ap Some (add-zero n)
