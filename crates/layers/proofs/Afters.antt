@@ -13,7 +13,7 @@ use Rattle.std.specs.shelf.Maps.{nth}
 use Rattle.records.specs.Instance.{Instance}
 use Rattle.sources.proofs.Writers.{earlier-past, writer-absent}
 use Rattle.sources.specs.Questions.{earlier, readers, writer, writes}
-use Rattle.layers.proofs.Joined.{earlier-right, nth-right, readers-from, writer-from}
+use Rattle.layers.proofs.Joined.{earlier-right, nth-right, readers-right, writer-right}
 use Rattle.layers.specs.Lists.{joined}
 
 -- both lists fit
@@ -71,14 +71,14 @@ pub readers-after : (c v w : ℕ) (l m : List Instance) → w ≡ writes c l →
 readers-after c v w l m e h f =
     sym
     (ap (readers c v) (both l m f)
-    ∙ (readers-from c v l m (omega arith)
+    ∙ (readers-right c v l m (omega arith)
     ∙ ap (λ (k : ℕ). readers c v l + readers c (v - k) m) (sym e)))
 
 pub writer-after : (c k n w : ℕ) (l m : List Instance) → n ≡ length l → w ≡ writes c l → w ≤ k → Fit l m true → mapped (λ q. n + q) (writer c (k - w) m) ≡ writer c k (joined l m)
 writer-after c k n w l m d e h f =
     sym
     (ap (writer c k) (both l m f)
-    ∙ (writer-from c k l m (omega arith)
+    ∙ (writer-right c k l m (omega arith)
     ∙ (ap (λ (j : ℕ). mapped (λ q. j + q) (writer c (k - writes c l) m)) (sym d)
     ∙ ap (λ (j : ℕ). mapped (λ q. n + q) (writer c (k - j) m)) (sym e))))
 

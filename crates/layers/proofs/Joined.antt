@@ -94,8 +94,8 @@ readers-both c v l m =
       total-same (λ q. version-slots c v (l ++ m) (length l + q)) (λ q. cond (eqb (writes c l + earlier c q m) v) (slots-at c m q) 0) (length m) (λ q b. slots-of-second c v q l m),
     ))
 
-pub readers-before : (c v : ℕ) (l m : List Instance) → v < writes c l → readers c v (l ++ m) ≡ readers c v l
-readers-before c v l m h =
+pub readers-left : (c v : ℕ) (l m : List Instance) → v < writes c l → readers c v (l ++ m) ≡ readers c v l
+readers-left c v l m h =
     omega (
       arith,
       readers-both c v l m,
@@ -103,8 +103,8 @@ readers-before c v l m h =
           (λ q b. ap {B = ℕ} (λ (t : Bool). cond t (slots-at c m q) 0) (ne-eqb (writes c l + earlier c q m) v (λ e. omega arith))),
     )
 
-pub readers-from : (c v : ℕ) (l m : List Instance) → writes c l ≤ v → readers c v (l ++ m) ≡ readers c v l + readers c (v - writes c l) m
-readers-from c v l m h = readers-both c v l m ∙ ap (λ (n : ℕ). readers c v l + n) second
+pub readers-right : (c v : ℕ) (l m : List Instance) → writes c l ≤ v → readers c v (l ++ m) ≡ readers c v l + readers c (v - writes c l) m
+readers-right c v l m h = readers-both c v l m ∙ ap (λ (n : ℕ). readers c v l + n) second
   where
     second : total (λ q. cond (eqb (writes c l + earlier c q m) v) (slots-at c m q) 0) (length m) ≡ readers c (v - writes c l) m
     second = unfold readers in
@@ -125,13 +125,13 @@ writer-both c k l m =
     (least-same (λ q. is-writer c k (l ++ m) (length l + q)) (λ q. writes-at c m q && eqb (writes c l + earlier c q m) k) (length m)
     (λ q b. rw (writes-right c q l m, earlier-right c q l m) refl))))
 
-pub writer-before : (c k : ℕ) (l m : List Instance) → k < writes c l → writer c k (l ++ m) ≡ writer c k l
-writer-before c k l m h =
+pub writer-left : (c k : ℕ) (l m : List Instance) → k < writes c l → writer c k (l ++ m) ≡ writer c k l
+writer-left c k l m h =
     let (p, e) = writer-there c k l h in
     writer-both c k l m ∙ rw e refl
 
-pub writer-from : (c k : ℕ) (l m : List Instance) → writes c l ≤ k → writer c k (l ++ m) ≡ mapped (λ q. length l + q) (writer c (k - writes c l) m)
-writer-from c k l m h =
+pub writer-right : (c k : ℕ) (l m : List Instance) → writes c l ≤ k → writer c k (l ++ m) ≡ mapped (λ q. length l + q) (writer c (k - writes c l) m)
+writer-right c k l m h =
     writer-both c k l m
     ∙ (ap (λ (o : Option ℕ). orOther o (mapped (λ q. length l + q) (least (λ q. writes-at c m q && eqb (writes c l + earlier c q m) k) (length m)))) (writer-absent c k l h)
     ∙ ap (mapped (λ q. length l + q)) second)

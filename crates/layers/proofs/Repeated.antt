@@ -19,7 +19,7 @@ use Rattle.sources.proofs.Readers.{readers-past}
 use Rattle.sources.proofs.Writers.{earlier-none, earlier-past, writer-absent}
 use Rattle.sources.specs.Numbers.{total}
 use Rattle.sources.specs.Questions.{earlier, readers, writer, writes}
-use Rattle.layers.proofs.Joined.{earlier-left, earlier-right, nth-left, nth-right, readers-before, readers-from, writer-before, writer-from, writes-append}
+use Rattle.layers.proofs.Joined.{earlier-left, earlier-right, nth-left, nth-right, readers-left, readers-right, writer-left, writer-right, writes-append}
 use Rattle.layers.specs.Lists.{copies, in-turn}
 use Rattle.layers.specs.Sound.{length-copies}
 
@@ -89,10 +89,10 @@ unfolding copies
 writer-copies c zero q e l h k = absurd (omega arith)
 writer-copies c (suc r) zero e l h k =
     ap (λ (n : ℕ). writer c n (l ++ copies r l)) (omega arith)
-    ∙ (writer-before c e l (copies r l) k
+    ∙ (writer-left c e l (copies r l) k
     ∙ moved-none (writer c e l) (length l))
 writer-copies c (suc r) (suc q) e l h k =
-    writer-from c (suc q * writes c l + e) l (copies r l) (omega arith)
+    writer-right c (suc q * writes c l + e) l (copies r l) (omega arith)
     ∙ (ap (λ (n : ℕ). mapped (λ p. length l + p) (writer c n (copies r l))) (omega arith)
     ∙ (ap (mapped (λ p. length l + p)) (writer-copies c r q e l (omega arith) k)
     ∙ moved-more (writer c e l) (length l) q))
@@ -121,7 +121,7 @@ unfolding copies
 readers-unwritten c v zero l z = readers-nil c v ∙ omega arith
 readers-unwritten c v (suc r) l z =
     let same : v - writes c l ≡ v = omega arith in
-    readers-from c v l (copies r l) (omega arith)
+    readers-right c v l (copies r l) (omega arith)
     ∙ (ap (λ (k : ℕ). readers c v l + readers c k (copies r l)) same
     ∙ omega (arith, readers-unwritten c v r l z))
 
@@ -144,7 +144,7 @@ turn-first r c v l = ap (λ (t : Bool). cond t (readers c v l) 0) (lt-ltb 0 (suc
 readers-first : (c r e : ℕ) (l : List Instance) → e < writes c l → readers c e (copies r l) ≡ in-turn r 0 c e l
 unfolding copies
 readers-first c zero e l k = readers-nil c e ∙ sym (turn-none 0 c e l)
-readers-first c (suc r) e l k = readers-before c e l (copies r l) k ∙ sym (turn-first r c e l)
+readers-first c (suc r) e l k = readers-left c e l (copies r l) k ∙ sym (turn-first r c e l)
 
 -- at the end of the list below: its last version is the next turn's first
 readers-last : (c r e : ℕ) (l : List Instance) → readers c (writes c l + e) l ≡ cond (eqb e 0) (in-turn (suc r) 0 c (writes c l) l) 0
@@ -165,12 +165,12 @@ readers-later c zero q e l k =
 readers-later c (suc r) zero e l k =
     let v : 1 * writes c l + e ≡ writes c l + e = omega arith in
     let rest : (1 * writes c l + e) - writes c l ≡ e = omega arith in
-    readers-from c (1 * writes c l + e) l (copies r l) (omega arith)
+    readers-right c (1 * writes c l + e) l (copies r l) (omega arith)
     ∙ omega (arith, ap (λ (n : ℕ). readers c n l) v ∙ readers-last c r e l, ap (λ (n : ℕ). readers c n (copies r l)) rest ∙ (readers-first c r e l k ∙ sym (turn-suc r 0 c e l)))
 readers-later c (suc r) (suc q) e l k =
     let rest : (suc (suc q) * writes c l + e) - writes c l ≡ suc q * writes c l + e = omega arith in
     let last = ap (λ (n : ℕ). cond (eqb e 0) n 0) (turn-suc r q c (writes c l) l) in
-    readers-from c (suc (suc q) * writes c l + e) l (copies r l) (omega arith)
+    readers-right c (suc (suc q) * writes c l + e) l (copies r l) (omega arith)
     ∙ omega (arith, readers-past c (suc (suc q) * writes c l + e) l (omega arith), ap (λ (n : ℕ). readers c n (copies r l)) rest ∙ readers-later c r q e l k, turn-suc r (suc q) c e l, last)
 
 -- the readers of version v: in turn v / w, and where that version begins it, at the end of the turn before

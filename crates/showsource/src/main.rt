@@ -16,7 +16,7 @@ use std::io;
 use written::WrittenList;
 use written::WrittenListSource;
 
-/// Rows over cells 0 to 2: the second reads its own cell in two slots, the third the cell that it writes.
+/// Rows over cells 0 to 2. The second reads the cell that it writes in two slots, the third in one.
 const ROWS: [Row; 4] = [
     Row {
         operator: 0,

@@ -10,7 +10,7 @@ use std::test::*;
 
 /// Asks both for the instance at a position, whole and by its parts.
 fn same_instance<A: Source, B: Source>(a: &A, b: &B, position: u32) -> Result<(), Fail> {
-    check(a.record_at(position) == b.record_at(position))?;
+    check_eq(a.record_at(position), b.record_at(position))?;
     check_eq(a.operator_at(position), b.operator_at(position))?;
     check_eq(a.written_at(position), b.written_at(position))?;
     check_eq(a.reads_at(position), b.reads_at(position))?;

@@ -140,9 +140,9 @@ fn few_and_many_rounds() -> Result<(), Fail> {
     check_eq(most.earlier(2, 65534), 21844)?;
     check_eq(most.readers(0, 21845), 5)?;
     check_eq(most.readers(0, 21846), 0)?;
-    // 65,536 would be one too many, so the last round is left out.
-    let four = Rounds::new(After::new(list, Rounds::new(list, 1)), 65535);
-    check_eq(four.length(), 65532)
+    // 10,922 rounds of six are 65,532 instances, and one round more would be too many.
+    let six = Rounds::new(After::new(list, list), 65535);
+    check_eq(six.length(), 65532)
 }
 
 #[test]

@@ -1,4 +1,4 @@
--- Totals and searches over the numbers below n.
+-- Totals over the numbers below n.
 use mathlib.Core.Path.{_≡_, refl, sym, ap, _∙_}
 use mathlib.Core.Bool.{Bool, cond}
 use mathlib.Core.Logic.{inl, inr}

@@ -4,7 +4,7 @@ use native.Mathlib.Omega.{arith}
 use Rattle.sources.proofs.Bounds.{readers-few}
 use Rattle.sources.specs.Questions.{readers}
 use Rattle.layers.proofs.Afters.{first-stands, readers-after, rest-of}
-use Rattle.layers.proofs.Joined.{readers-before}
+use Rattle.layers.proofs.Joined.{readers-left}
 use Rattle.layers.specs.Lists.{joined}
 use Rattle.layers.specs.Sound.{joined-sound}
 use Rattle.layers.proofs.after.AfterSource.readers.Given.{Over}
@@ -14,7 +14,7 @@ pub returns-then-version-writes : need.returns-then-version-writes
 returns-then-version-writes g c =
     let l = g .A·Source .list (c .args .self .now .first) in
     let m = g .B·Source .list (c .args .self .now .second) in
-    c .readers-readers .ensures ∙ sym (ap (readers (c .args .cell) (c .args .version)) (first-stands l m) ∙ readers-before (c .args .cell) (c .args .version) l (rest-of l m) (omega (arith, c .writes-writes .ensures .answer, c .if-version-writes .taken)))
+    c .readers-readers .ensures ∙ sym (ap (readers (c .args .cell) (c .args .version)) (first-stands l m) ∙ readers-left (c .args .cell) (c .args .version) l (rest-of l m) (omega (arith, c .writes-writes .ensures .answer, c .if-version-writes .taken)))
 
 sum : (g : Over) (c : need.After-readers g) → c .readers-readers .result + c .readers .result ≡ readers (c .args .cell) (c .args .version) (joined (g .A·Source .list (c .args .self .now .first)) (g .B·Source .list (c .args .self .now .second)))
 sum g c =

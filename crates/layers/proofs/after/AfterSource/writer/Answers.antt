@@ -6,7 +6,7 @@ use Rattle.std.specs.declared.option.Option.the-variants.{Some}
 use Rattle.sources.proofs.Bounds.{writer-few}
 use Rattle.sources.specs.Questions.{writer}
 use Rattle.layers.proofs.Afters.{first-stands, rest-of, writer-after, writer-alone}
-use Rattle.layers.proofs.Joined.{writer-before}
+use Rattle.layers.proofs.Joined.{writer-left}
 use Rattle.layers.specs.Lists.{joined}
 use Rattle.layers.specs.Sound.{joined-sound}
 use Rattle.layers.proofs.after.AfterSource.writer.Given.{Over}
@@ -16,7 +16,7 @@ pub returns-then-count-writes : need.returns-then-count-writes
 returns-then-count-writes g c =
     let l = g .A·Source .list (c .args .self .now .first) in
     let m = g .B·Source .list (c .args .self .now .second) in
-    c .writer .ensures ∙ sym (ap (writer (c .args .cell) (c .args .count)) (first-stands l m) ∙ writer-before (c .args .cell) (c .args .count) l (rest-of l m) (omega (arith, c .writes-writes .ensures .answer, c .if-count-writes .taken)))
+    c .writer .ensures ∙ sym (ap (writer (c .args .cell) (c .args .count)) (first-stands l m) ∙ writer-left (c .args .cell) (c .args .count) l (rest-of l m) (omega (arith, c .writes-writes .ensures .answer, c .if-count-writes .taken)))
 
 pub returns-then-not-fits : need.returns-then-not-fits
 returns-then-not-fits g c =
