@@ -1,4 +1,6 @@
 //! Layers: sources made of other sources.
+#![tactic(auto)]
+
 pub mod after;
 pub mod rounds;
 

@@ -1,4 +1,6 @@
 //! The text of a whole trace: a line for each record, and a last line with their number or the refusal.
+#![tactic(auto)]
+
 pub mod fault;
 pub mod listing;
 

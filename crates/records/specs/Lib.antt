@@ -3,3 +3,4 @@ pub mod Meaning
 pub mod Making
 pub mod Text
 pub mod Doing
+pub mod Equality

@@ -1,4 +1,6 @@
 //! Records of a trace: what they are, what they mean, and how one is shown as text.
+#![tactic(auto)]
+
 pub mod fault;
 pub mod record;
 pub mod row;

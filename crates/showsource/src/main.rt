@@ -1,4 +1,6 @@
 //! Prints what a few sources answer to every question: a written list, and layers over it.
+#![tactic(auto)]
+
 use layers::{After, Rounds};
 use records::{MOST_READS, Row};
 use sources::{Counts, Parts, Source};

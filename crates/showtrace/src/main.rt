@@ -1,4 +1,6 @@
 //! Prints what is in the trace `order.bin` of the current folder.
+#![tactic(auto)]
+
 use listing::Listing;
 use std::fs::File;
 use std::io;

@@ -1,4 +1,6 @@
 //! Tests of sources and layers.
+#![tactic(auto)]
+
 mod compared;
 mod layered;
 mod rows;

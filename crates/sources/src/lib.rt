@@ -1,4 +1,6 @@
 //! Sources: lists of statement instances, by the questions that they answer.
+#![tactic(auto)]
+
 pub mod borrowed;
 pub mod counts;
 pub mod parts;

@@ -1,4 +1,6 @@
 //! Traces: the bytes of records.
+#![tactic(auto)]
+
 pub mod fault;
 mod layout;
 pub mod reader;

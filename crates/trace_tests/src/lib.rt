@@ -1,4 +1,6 @@
 //! Tests of records, traces and listings, on cases that were worked out by hand or by a script.
+#![tactic(auto)]
+
 #[cfg(test)]
 mod cases;
 #[cfg(test)]

@@ -1,4 +1,6 @@
 //! The written list: a source over rows in the caller's memory.
+#![tactic(auto)]
+
 pub mod fault;
 pub mod list;
 

@@ -1,17 +1,22 @@
 //! Records are equal exactly when they mean the same instance.
 ghost use Rattle.std.specs.Prelude.{◌≡◌, Decides};
-ghost use Rattle.records.specs.Meaning.{instance};
 ghost use Rattle.std.specs.Cmp.Rules.{comparing};
-ghost use Rattle.std.proofs.Common.{rules, arith};
+ghost use Rattle.std.specs.Ordering.{on};
+ghost use Rattle.std.proofs.Common.{rules};
+ghost use Rattle.records.specs.Equality.{same_instance};
+ghost use Rattle.records.specs.Meaning.{instance};
 
 use crate::record::Record;
 
 impl PartialEq for Record {
-    ghost equals = { λ x y r. Decides r (instance x ≡ instance y) };
+    ghost eq = { on instance same_instance };
 
-    ghost laws = { first_of (Prim.search (comparing, rules), Prim.grind (arith, Self.row.coded.inj)) };
+    ghost laws = { Prim.search (comparing, rules) };
 
-    fn eq(&self, other: &Record) -> bool {
+    fn eq(&self, other: &Record) -> bool
+        ensures gives { result ≡ same_instance (instance self.now) (instance other.now) }
+        ensures equal { Decides result (instance self.now ≡ instance other.now) }
+    {
         if self.operator() != other.operator() {
             return false;
         }

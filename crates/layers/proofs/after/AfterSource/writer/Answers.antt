@@ -21,19 +21,19 @@ returns-then-not-fits g c =
     let m = g.B.Source.list c.args.self.now.second in
     writer_alone c.args.cell c.args.count c.writes-writes.result l m c.writes-writes.ensures.answer c.if-count-writes.false c.if-not-fits.ensures
 
-pub returns-in-err-position : goal.returns-in-err-position
-returns-in-err-position g c =
+pub returns-in_err-position : goal.returns-in_err-position
+returns-in_err-position g c =
     let l = g.A.Source.list c.args.self.now.first in
     let m = g.B.Source.list c.args.self.now.second in
     c.from-residual.ensures
-    ∙ (ap (option_map (λ q. c.length-length.result + q)) c.in-err-position.ensures
+    ∙ (ap (option_map (λ q. c.length-length.result + q)) c.in_err-position.ensures
     ∙ writer_after c.args.cell c.args.count c.length-length.result c.writes-writes.result l m c.length-length.ensures c.writes-writes.ensures.answer c.if-count-writes.false c.if-not-fits.ensures)
 
-found : (g : Over) (c : goal.In-ok-position g) → Some (c.length-length.result + c.in-ok-position.position) ≡ writer c.args.cell c.args.count (joined (g.A.Source.list c.args.self.now.first) (g.B.Source.list c.args.self.now.second))
+found : (g : Over) (c : goal.In-ok-position g) → Some (c.length-length.result + c.in_ok-position.position) ≡ writer c.args.cell c.args.count (joined (g.A.Source.list c.args.self.now.first) (g.B.Source.list c.args.self.now.second))
 found g c =
     let l = g.A.Source.list c.args.self.now.first in
     let m = g.B.Source.list c.args.self.now.second in
-    ap (option_map (λ q. c.length-length.result + q)) c.in-ok-position.ensures
+    ap (option_map (λ q. c.length-length.result + q)) c.in_ok-position.ensures
     ∙ writer_after c.args.cell c.args.count c.length-length.result c.writes-writes.result l m c.length-length.ensures c.writes-writes.ensures.answer c.if-count-writes.false c.if-not-fits.ensures
 
 pub overflow-add-result : goal.overflow-add-result
@@ -41,7 +41,7 @@ overflow-add-result g c =
     let a = c.args.self.now.first in
     let b = c.args.self.now.second in
     let sound = joined_sound (g.A.Source.size a) (g.B.Source.size b) (g.A.Source.list a) (g.B.Source.list b) (g.A.Source.sound a) (g.B.Source.sound b) in
-    omega (arith, sound.short, writer_few c.args.cell c.args.count (c.length-length.result + c.in-ok-position.position) (joined (g.A.Source.list a) (g.B.Source.list b)) (sym (found g c)))
+    omega (arith, sound.short, writer_few c.args.cell c.args.count (c.length-length.result + c.in_ok-position.position) (joined (g.A.Source.list a) (g.B.Source.list b)) (sym (found g c)))
 
 pub returns : goal.returns
 returns g c = found g c

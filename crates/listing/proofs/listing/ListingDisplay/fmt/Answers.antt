@@ -17,14 +17,14 @@ returns-in-Err-clause-writes g c =
     has_written_of_eq g.W.Write.write_str_gives _ _ _ _ whole_text
     (has_written_append g.W.Write.write_str_gives _ _ _ _ _ put (c.write-in-Err.ensures.writes put.plain ok))
 
-pub returns-in-default-clause-writes : goal.returns-in-default-clause-writes
-returns-in-default-clause-writes g c =
+pub returns-in_default-clause-writes : goal.returns-in_default-clause-writes
+returns-in_default-clause-writes g c =
     λ p ok. let (bs, put, eq) = c.loop-next.invariant.2 p in
     let at = cursor c.loop-next.reader in
-    let go = stepped_on at (cursor c.next-record.new.self) _ (rw c.in-default.is at c.in-Ok.ensures.answer) c.next-record.ensures.after in
+    let go = stepped_on at (cursor c.next-record.new.self) _ (rw c.in_default.is at c.in-Ok.ensures.answer) c.next-record.ensures.after in
     let whole_text = ap (λ (w : Walk). bs ++ told c.loop-next.count w) (sym go) ∙ (eq ∙ sym (short c.args.self.now.bytes.now (omega arith))) in
     has_written_of_eq g.W.Write.write_str_gives _ _ _ _ whole_text
-    (has_written_append g.W.Write.write_str_gives _ _ _ _ _ put (c.write-in-default.ensures.writes put.plain ok))
+    (has_written_append g.W.Write.write_str_gives _ _ _ _ _ put (c.write-in_default.ensures.writes put.plain ok))
 
 pub loop-next-smaller : goal.loop-next-smaller
 loop-next-smaller g c =
@@ -42,6 +42,6 @@ loop-next-preserved g c =
       same_bytes at to c.next-record.ensures.after ∙ c.loop-next.invariant.0,
       omega (arith, go.1, c.loop-next.invariant.1),
       λ p. let (bs, put, eq) = c.loop-next.invariant.2 p in
-          let more = c.in-ok-write.ensures.shows put.plain refl in
+          let more = c.in_ok-write.ensures.writes put.plain refl in
           (bs ++ line (c.loop-next.count + 1) new, has_written_append g.W.Write.write_str_gives _ _ _ _ _ put more, told_more bs _ _ c.loop-next.count new (rest_of at) (rest_of to) go.0 eq refl),
     )

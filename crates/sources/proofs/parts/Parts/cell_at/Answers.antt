@@ -13,5 +13,5 @@ returns g c =
     c.copied.ensures
     ∙ (found
     ∙ (ap (λ (l : List ℕ). slice_get l (c.args.slot - 1)) c.reads.ensures
-    ∙ (ap (λ (o : Option Instance). option_flatten (option_map (slot_of (suc (c.args.slot - 1))) o)) c.in-ok-record.ensures
+    ∙ (ap (λ (o : Option Instance). option_flatten (option_map (slot_of (suc (c.args.slot - 1))) o)) c.in_ok-record.ensures
     ∙ ap (λ (k : ℕ). option_flatten (option_map (slot_of k) (slice_get (g.Self.Source.list c.args.self.now) c.args.position))) (sym slot))))

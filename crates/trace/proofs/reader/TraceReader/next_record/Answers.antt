@@ -6,22 +6,22 @@ use Rattle.trace.proofs.Steps.{step_is, step_within}
 use Rattle.trace.specs.Reader.{Cursor, cursor, after}
 use Rattle.trace.proofs.reader.TraceReader.next_record.Goals as goal
 
-pub returns-in-err-front : goal.returns-in-err-front
-returns-in-err-front c =
+pub returns-in_err-front : goal.returns-in_err-front
+returns-in_err-front c =
     let p = err_from_is_err_and c.from-residual.result c.from-residual.ensures.1 in
-    let s = step_is (cursor c.args.self.now) (Err _) c.in-err-front.ensures in
+    let s = step_is (cursor c.args.self.now) (Err _) c.in_err-front.ensures in
     rw (p.1, p.2) (record { answer = s.answer; after = s.after; finds = s.finds; unambiguous = unambiguous })
 
-pub returns-in-default : goal.returns-in-default
-returns-in-default c =
-    let s = step_is (cursor c.args.self.now) (Ok None) (rw c.in-default.is at c.in-ok-front.ensures) in
+pub returns-in_default : goal.returns-in_default
+returns-in_default c =
+    let s = step_is (cursor c.args.self.now) (Ok None) (rw c.in_default.is at c.in_ok-front.ensures) in
     record { answer = s.answer; after = s.after; finds = s.finds; unambiguous = unambiguous }
 
 pub invariant-of-self : goal.invariant-of-self
 invariant-of-self c =
     let at = c.args.self.now in
     let x = c.in-Some.front in
-    let s = step_is (cursor at) (Ok (Some (record { meaning = instance x.found; size = x.size }))) (rw c.in-Some.is at c.in-ok-front.ensures) in
+    let s = step_is (cursor at) (Ok (Some (record { meaning = instance x.found; size = x.size }))) (rw c.in-Some.is at c.in_ok-front.ensures) in
     let w = step_within (cursor at) at.inside in
     let e : (after (cursor at)).place ≡ at.place + x.size = ap (λ (d : Cursor). d.place) (sym s.after) in
     (omega arith, (omega (arith, w.2, e), tt))
@@ -29,5 +29,5 @@ invariant-of-self c =
 pub returns : goal.returns
 returns c =
     let x = c.in-Some.front in
-    let s = step_is (cursor c.args.self.now) (Ok (Some (record { meaning = instance x.found; size = x.size }))) (rw c.in-Some.is at c.in-ok-front.ensures) in
+    let s = step_is (cursor c.args.self.now) (Ok (Some (record { meaning = instance x.found; size = x.size }))) (rw c.in-Some.is at c.in_ok-front.ensures) in
     record { answer = s.answer; after = s.after; finds = s.finds; unambiguous = unambiguous }

@@ -9,7 +9,7 @@ pub loop-cell-preserved : goal.loop-cell-preserved
 loop-cell-preserved g c =
     λ p. let before = c.loop-cell.invariant p in
     has_written_of_eq g.W.Write.write_str_gives _ _ _ _ (cells_more c.args.self.now.cells.now c.loop-cell.cell-index c.loop-cell-test.true)
-    (has_written_append g.W.Write.write_str_gives _ _ _ _ _ before (c.in-ok-write.ensures.shows before.plain refl))
+    (has_written_append g.W.Write.write_str_gives _ _ _ _ _ before (c.in_ok-write.ensures.writes before.plain refl))
 
 pub returns-clause-writes : goal.returns-clause-writes
 returns-clause-writes g c =
