@@ -20,8 +20,8 @@ sum g c =
     let m = g.B.Source.list c.args.self.now.second in
     omega (arith, c.earlier-earlier.ensures, c.earlier.ensures, earlier_after c.args.cell c.args.position c.length-length.result l m c.length-length.ensures c.if-position-length.false c.if-not-fits.ensures)
 
-pub overflow-add-result : goal.overflow-add-result
-overflow-add-result g c =
+pub overflow_add-result : goal.overflow_add-result
+overflow_add-result g c =
     let a = c.args.self.now.first in
     let b = c.args.self.now.second in
     let sound = joined_sound (g.A.Source.size a) (g.B.Source.size b) (g.A.Source.list a) (g.B.Source.list b) (g.A.Source.sound a) (g.B.Source.sound b) in

@@ -20,8 +20,8 @@ sum g c =
     let m = g.B.Source.list c.args.self.now.second in
     omega (arith, c.readers-readers.ensures, c.readers.ensures, readers_after c.args.cell c.args.version c.writes-writes.result l m c.writes-writes.ensures.answer c.if-version-writes.false c.if-not-fits.ensures)
 
-pub overflow-add-result : goal.overflow-add-result
-overflow-add-result g c =
+pub overflow_add-result : goal.overflow_add-result
+overflow_add-result g c =
     let a = c.args.self.now.first in
     let b = c.args.self.now.second in
     let sound = joined_sound (g.A.Source.size a) (g.B.Source.size b) (g.A.Source.list a) (g.B.Source.list b) (g.A.Source.sound a) (g.B.Source.sound b) in

@@ -36,8 +36,8 @@ found g c =
     ap (option_map (λ q. c.length-length.result + q)) c.in_ok-position.ensures
     ∙ writer_after c.args.cell c.args.count c.length-length.result c.writes-writes.result l m c.length-length.ensures c.writes-writes.ensures.answer c.if-count-writes.false c.if-not-fits.ensures
 
-pub overflow-add-result : goal.overflow-add-result
-overflow-add-result g c =
+pub overflow_add-result : goal.overflow_add-result
+overflow_add-result g c =
     let a = c.args.self.now.first in
     let b = c.args.self.now.second in
     let sound = joined_sound (g.A.Source.size a) (g.B.Source.size b) (g.A.Source.list a) (g.B.Source.list b) (g.A.Source.sound a) (g.B.Source.sound b) in

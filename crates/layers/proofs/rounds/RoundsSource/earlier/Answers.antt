@@ -29,11 +29,11 @@ small g c =
     let l = g.S.Source.list s in
     omega (arith, sum g c, (repeated_sound c.args.self.now.times (g.S.Source.size s) l (g.S.Source.sound s)).short, earlier_few c.args.cell c.args.position (repeated c.args.self.now.times l))
 
-pub overflow-mul-result : goal.overflow-mul-result
-overflow-mul-result g c = omega (arith, small g c)
+pub overflow_mul-result : goal.overflow_mul-result
+overflow_mul-result g c = omega (arith, small g c)
 
-pub overflow-add-result : goal.overflow-add-result
-overflow-add-result g c = omega (arith, small g c)
+pub overflow_add-result : goal.overflow_add-result
+overflow_add-result g c = omega (arith, small g c)
 
 pub returns : goal.returns
 returns g c = sum g c

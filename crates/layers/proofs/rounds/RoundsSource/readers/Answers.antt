@@ -17,8 +17,8 @@ product g c =
     ∙ (ap (λ (n : ℕ). r * n) c.readers.ensures
     ∙ sym (readers_unwritten c.args.cell c.args.version r l (sym c.writes-writes.ensures.answer ∙ c.if-writes-eq0.true)))
 
-pub overflow-mul-result : goal.overflow-mul-result
-overflow-mul-result g c =
+pub overflow_mul-result : goal.overflow_mul-result
+overflow_mul-result g c =
     let s = c.args.self.now.below in
     let l = g.S.Source.list s in
     omega (arith, product g c, readers_few c.args.cell c.args.version (g.S.Source.size s) (repeated c.args.self.now.times l) (repeated_sound c.args.self.now.times (g.S.Source.size s) l (g.S.Source.sound s)))
@@ -60,8 +60,8 @@ sum g c =
       ap (λ (t : Bool). cond t (in_turn r (v / n - 1) c.args.cell n l) 0) (eq-eqb (v % n) 0 (omega (arith, c.if-version-writes-gt0.false))),
     )
 
-pub overflow-add-result : goal.overflow-add-result
-overflow-add-result g c =
+pub overflow_add-result : goal.overflow_add-result
+overflow_add-result g c =
     let s = c.args.self.now.below in
     let l = g.S.Source.list s in
     omega (arith, sum g c, readers_few c.args.cell c.args.version (g.S.Source.size s) (repeated c.args.self.now.times l) (repeated_sound c.args.self.now.times (g.S.Source.size s) l (g.S.Source.sound s)))

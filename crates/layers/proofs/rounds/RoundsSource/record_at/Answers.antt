@@ -10,8 +10,8 @@ returns-then-position-length g c =
     let l = g.S.Source.list c.args.self.now.below in
     sym (slice_get_past (repeated c.args.self.now.times l) c.args.position (omega (arith, c.length.ensures)))
 
-pub nonzero-rem-position : goal.nonzero-rem-position
-nonzero-rem-position g c =
+pub nonzero_rem-position : goal.nonzero_rem-position
+nonzero_rem-position g c =
     let l = g.S.Source.list c.args.self.now.below in
     let r = turns c.args.self.now.times (length l) in
     omega (arith, c.length-2.ensures, some_below r c.args.position (length l) (omega (arith, c.length.ensures, length_copies r l)))

@@ -42,8 +42,8 @@ small g c =
     let l = g.S.Source.list s in
     omega (arith, (repeated_sound c.args.self.now.times (g.S.Source.size s) l (g.S.Source.sound s)).short, writer_few c.args.cell c.args.count _ (repeated c.args.self.now.times l) (sym (found g c)))
 
-pub overflow-add-result : goal.overflow-add-result
-overflow-add-result g c = omega (arith, small g c)
+pub overflow_add-result : goal.overflow_add-result
+overflow_add-result g c = omega (arith, small g c)
 
 pub returns : goal.returns
 returns g c = found g c

@@ -15,8 +15,8 @@ pub loop-version-init : goal.loop-version-init
 unfolding total
 loop-version-init g c = refl
 
-pub overflow-add-slots : goal.overflow-add-slots
-overflow-add-slots g c =
+pub overflow_add-slots : goal.overflow_add-slots
+overflow_add-slots g c =
     let at = c.args.self.now in
     let l = g.Self.Source.list at in
     let sum = more c.args.cell c.loop-version.version c.loop-version.slots c.readers-slots.result l c.loop-version.invariant c.readers-slots.ensures in
@@ -25,8 +25,8 @@ overflow-add-slots g c =
 pub loop-version-preserved : goal.loop-version-preserved
 loop-version-preserved g c = more c.args.cell c.loop-version.version c.loop-version.slots c.readers-slots.result (g.Self.Source.list c.args.self.now) c.loop-version.invariant c.readers-slots.ensures
 
-pub returns·2 : goal.returns·2
-returns·2 g c =
+pub returns-2 : goal.returns-2
+returns-2 g c =
     let l = g.Self.Source.list c.args.self.now in
     let v = c.loop-version.version in
     record {

@@ -18,8 +18,8 @@ returns-then-seen-count c =
     let writes = row_writes c.args.cell rows p blank c.loop-position-test.true ∙ eq-eqb (get_or rows p blank).written c.args.cell c.if-row-cell.true in
     sym (writer_from (rows_list c.args.self.now) c.args.cell c.args.count p writes (sym c.loop-position.invariant.0 ∙ c.if-seen-count.true))
 
-pub overflow-add-seen : goal.overflow-add-seen
-overflow-add-seen c = omega (arith, c.loop-position.invariant.1)
+pub overflow_add-seen : goal.overflow_add-seen
+overflow_add-seen c = omega (arith, c.loop-position.invariant.1)
 
 pub loop-position-preserved : goal.loop-position-preserved
 loop-position-preserved c =
