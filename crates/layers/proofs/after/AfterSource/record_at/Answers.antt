@@ -21,4 +21,4 @@ pub returns : goal.returns
 returns g c =
     let l = g.A.Source.list c.args.self.now.first in
     let m = g.B.Source.list c.args.self.now.second in
-    c.record-at-2.ensures ∙ nth_after c.args.position c.length-length.result l m c.length-length.ensures c.if-position-length.false c.if-not-fits.ensures
+    c.record_at-2.ensures ∙ nth_after c.args.position c.length-length.result l m c.length-length.ensures c.if-position-length.false c.if-not-fits.ensures

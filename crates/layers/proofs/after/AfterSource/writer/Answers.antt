@@ -25,11 +25,11 @@ pub returns-in_err-position : goal.returns-in_err-position
 returns-in_err-position g c =
     let l = g.A.Source.list c.args.self.now.first in
     let m = g.B.Source.list c.args.self.now.second in
-    c.from-residual.ensures
+    c.from_residual.ensures
     ∙ (ap (option_map (λ q. c.length-length.result + q)) c.in_err-position.ensures
     ∙ writer_after c.args.cell c.args.count c.length-length.result c.writes-writes.result l m c.length-length.ensures c.writes-writes.ensures.answer c.if-count-writes.false c.if-not-fits.ensures)
 
-found : (g : Over) (c : goal.In-ok-position g) → Some (c.length-length.result + c.in_ok-position.position) ≡ writer c.args.cell c.args.count (joined (g.A.Source.list c.args.self.now.first) (g.B.Source.list c.args.self.now.second))
+found : (g : Over) (c : goal.In_ok-position g) → Some (c.length-length.result + c.in_ok-position.position) ≡ writer c.args.cell c.args.count (joined (g.A.Source.list c.args.self.now.first) (g.B.Source.list c.args.self.now.second))
 found g c =
     let l = g.A.Source.list c.args.self.now.first in
     let m = g.B.Source.list c.args.self.now.second in

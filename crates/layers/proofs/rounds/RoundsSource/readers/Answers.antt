@@ -30,7 +30,7 @@ pub returns-then-turn-eq0 : goal.returns-then-turn-eq0
 returns-then-turn-eq0 g c =
     let l = g.S.Source.list c.args.self.now.below in
     let r = turns c.args.self.now.times (length l) in
-    omega (arith, c.readers-in-readers.ensures, readers_turn_first c.args.cell r c.args.version c.writes-writes.result l c.writes-writes.ensures.answer (omega arith) c.if-turn-eq0.true)
+    omega (arith, c.readers_in-readers.ensures, readers_turn_first c.args.cell r c.args.version c.writes-writes.result l c.writes-writes.ensures.answer (omega arith) c.if-turn-eq0.true)
 
 pub returns-then-version-writes-gt0 : goal.returns-then-version-writes-gt0
 returns-then-version-writes-gt0 g c =
@@ -40,13 +40,13 @@ returns-then-version-writes-gt0 g c =
     let n = c.writes-writes.result in
     omega (
       arith,
-      c.readers-in-readers.ensures,
+      c.readers_in-readers.ensures,
       readers_turn c.args.cell r v n l c.writes-writes.ensures.answer (omega arith) (omega arith),
       ap (λ (t : Bool). cond t (in_turn r (v / n - 1) c.args.cell n l) 0) (ne_eqb (v % n) 0 (λ z. omega (arith, c.if-version-writes-gt0.true))),
     )
 
 -- both turns that read the version
-sum : (g : Over) (c : goal.After-readers-in g) → c.readers-in-readers.result + c.readers-in.result ≡ readers c.args.cell c.args.version (repeated c.args.self.now.times (g.S.Source.list c.args.self.now.below))
+sum : (g : Over) (c : goal.After-readers_in g) → c.readers_in-readers.result + c.readers_in.result ≡ readers c.args.cell c.args.version (repeated c.args.self.now.times (g.S.Source.list c.args.self.now.below))
 sum g c =
     let l = g.S.Source.list c.args.self.now.below in
     let r = turns c.args.self.now.times (length l) in
@@ -54,8 +54,8 @@ sum g c =
     let n = c.writes-writes.result in
     omega (
       arith,
-      c.readers-in-readers.ensures,
-      c.readers-in.ensures,
+      c.readers_in-readers.ensures,
+      c.readers_in.ensures,
       readers_turn c.args.cell r v n l c.writes-writes.ensures.answer (omega arith) (omega arith),
       ap (λ (t : Bool). cond t (in_turn r (v / n - 1) c.args.cell n l) 0) (eq-eqb (v % n) 0 (omega (arith, c.if-version-writes-gt0.false))),
     )

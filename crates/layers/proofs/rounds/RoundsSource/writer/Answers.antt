@@ -23,12 +23,12 @@ returns-in_err-position g c =
     let l = g.S.Source.list c.args.self.now.below in
     let n = c.length-length.result in
     let w = c.writes-writes.result in
-    c.from-residual.ensures
+    c.from_residual.ensures
     ∙ (ap (option_map (λ p. c.args.count / w * n + p)) c.in_err-position.ensures
     ∙ sym (writer_turn c.args.cell (turns c.args.self.now.times (length l)) c.args.count n w l c.length-length.ensures c.writes-writes.ensures.answer (omega arith) (omega (arith, c.turns.ensures, c.if-turn-turns.false))))
 
 -- the answer below, moved by whole turns
-found : (g : Over) (c : goal.In-ok-position g) → Some (c.args.count / c.writes-writes.result * c.length-length.result + c.in_ok-position.position) ≡ writer c.args.cell c.args.count (repeated c.args.self.now.times (g.S.Source.list c.args.self.now.below))
+found : (g : Over) (c : goal.In_ok-position g) → Some (c.args.count / c.writes-writes.result * c.length-length.result + c.in_ok-position.position) ≡ writer c.args.cell c.args.count (repeated c.args.self.now.times (g.S.Source.list c.args.self.now.below))
 found g c =
     let l = g.S.Source.list c.args.self.now.below in
     let n = c.length-length.result in
@@ -36,7 +36,7 @@ found g c =
     ap (option_map (λ p. c.args.count / w * n + p)) c.in_ok-position.ensures
     ∙ sym (writer_turn c.args.cell (turns c.args.self.now.times (length l)) c.args.count n w l c.length-length.ensures c.writes-writes.ensures.answer (omega arith) (omega (arith, c.turns.ensures, c.if-turn-turns.false)))
 
-small : (g : Over) (c : goal.In-ok-position g) → c.args.count / c.writes-writes.result * c.length-length.result + c.in_ok-position.position ≤ 65535
+small : (g : Over) (c : goal.In_ok-position g) → c.args.count / c.writes-writes.result * c.length-length.result + c.in_ok-position.position ≤ 65535
 small g c =
     let s = c.args.self.now.below in
     let l = g.S.Source.list s in

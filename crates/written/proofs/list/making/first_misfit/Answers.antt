@@ -4,15 +4,15 @@ use Rattle.written.proofs.Rows.{blank, misfit_no, misfit_yes, moved}
 use Rattle.written.specs.Rows.{first_misfit}
 use Rattle.written.proofs.list.making.first_misfit.Goals as goal
 
-pub returns-then-not-row-fits : goal.returns-then-not-row-fits
-returns-then-not-row-fits c =
+pub returns-then-not-row_fits : goal.returns-then-not-row_fits
+returns-then-not-row_fits c =
     let C = c.args.cells in
     let rows = c.args.rows.now in
     let i = c.loop-position.position in
     sym
     (sym c.loop-position.invariant
     ∙ (at_drop_more (λ rs. moved i (first_misfit C rs)) rows i blank c.loop-position-test.true
-    ∙ misfit_yes C i (get_or rows i blank) (drop (i + 1) rows) (sym c.if-not-row-fits.ensures)))
+    ∙ misfit_yes C i (get_or rows i blank) (drop (i + 1) rows) (sym c.if-not-row_fits.ensures)))
 
 pub loop-position-preserved : goal.loop-position-preserved
 loop-position-preserved c =
@@ -21,7 +21,7 @@ loop-position-preserved c =
     let i = c.loop-position.position in
     sym
     (at_drop_more (λ rs. moved i (first_misfit C rs)) rows i blank c.loop-position-test.true
-    ∙ misfit_no C i (get_or rows i blank) (drop (i + 1) rows) (sym c.if-not-row-fits.ensures))
+    ∙ misfit_no C i (get_or rows i blank) (drop (i + 1) rows) (sym c.if-not-row_fits.ensures))
     ∙ c.loop-position.invariant
 
 pub returns : goal.returns

@@ -8,7 +8,7 @@ use Rattle.written.proofs.list.questions.count_slots.Goals.{then-read-cell, else
 pub loop-read-preserved : goal.loop-read-preserved
 loop-read-preserved c =
     let x = c.args.cell in
-    let xs = c.reads-of-read-items.result.now in
+    let xs = c.reads_of-read-items.result.now in
     let i = c.loop-read.read-index in
     elim c.if-read-cell.branch [
       | then-read-cell w ↦ (omega (arith, w.held-is, c.loop-read.invariant.0, count_by_more_yes (λ r. eqb r x) xs i 0 c.loop-read-test.true (eq-eqb (get_or xs i 0) x w.if-read-cell.true)), omega (arith, w.held-is))
@@ -18,9 +18,9 @@ loop-read-preserved c =
 pub returns : goal.returns
 returns c =
     let x = c.args.cell in
-    let xs = c.reads-of-read-items.result.now in
+    let xs = c.reads_of-read-items.result.now in
     let i = c.loop-read.read-index in
     record {
-      held = c.loop-read.invariant.0 ∙ (ap (count_by (λ r. eqb r x)) (take_all i xs c.loop-read-test.false) ∙ ap (count_by (λ r. eqb r x)) c.reads-of-read-items.ensures.cells);
-      few = omega (arith, c.reads-of-read-items.ensures.few);
+      held = c.loop-read.invariant.0 ∙ (ap (count_by (λ r. eqb r x)) (take_all i xs c.loop-read-test.false) ∙ ap (count_by (λ r. eqb r x)) c.reads_of-read-items.ensures.cells);
+      few = omega (arith, c.reads_of-read-items.ensures.few);
     }

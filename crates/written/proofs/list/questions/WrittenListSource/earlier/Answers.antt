@@ -8,6 +8,6 @@ pub returns : goal.returns
 returns c =
     let rows = c.args.self.now.rows.now in
     let end : c.min-end.result - 0 ≡ min (length rows) c.args.position = omega (arith, c.min-end.ensures) in
-    c.count-writes.ensures
+    c.count_writes.ensures
     ∙ (ap (λ (k : ℕ). writes c.args.cell (map row_instance (take k rows))) end
     ∙ writes_front c.args.cell c.args.position rows)

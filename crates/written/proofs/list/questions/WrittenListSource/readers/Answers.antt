@@ -20,12 +20,12 @@ loop-row-preserved c =
     let p = c.loop-row.row-index in
     let slots : (c.if-seen-version.readers ≡ total (version_slots c.args.cell c.args.version (rows_list c.args.self.now)) (p + 1)) × (c.if-seen-version.readers ≤ 5 * (p + 1)) = elim c.if-seen-version.branch [
       | then-seen-version w ↦ (
-        omega (arith, w.readers_is, c.loop-row.invariant.1, w.count-slots-readers.ensures.held, readers_yes c.args.cell c.args.version rows p blank c.loop-row-test.true (sym c.loop-row.invariant.0 ∙ w.if-seen-version.true)),
-        omega (arith, w.readers_is, c.loop-row.invariant.3, w.count-slots-readers.ensures.few),
+        omega (arith, w.readers-is, c.loop-row.invariant.1, w.count_slots-readers.ensures.held, readers_yes c.args.cell c.args.version rows p blank c.loop-row-test.true (sym c.loop-row.invariant.0 ∙ w.if-seen-version.true)),
+        omega (arith, w.readers-is, c.loop-row.invariant.3, w.count_slots-readers.ensures.few),
       )
       | else-seen-version w ↦ (
-        omega (arith, w.readers_is, c.loop-row.invariant.1, readers_no c.args.cell c.args.version rows p blank c.loop-row-test.true (λ e. w.if-seen-version.false (c.loop-row.invariant.0 ∙ e))),
-        omega (arith, w.readers_is, c.loop-row.invariant.3),
+        omega (arith, w.readers-is, c.loop-row.invariant.1, readers_no c.args.cell c.args.version rows p blank c.loop-row-test.true (λ e. w.if-seen-version.false (c.loop-row.invariant.0 ∙ e))),
+        omega (arith, w.readers-is, c.loop-row.invariant.3),
       )
     ] in
     let writes : (c.if-row-cell.seen ≡ earlier c.args.cell (p + 1) (rows_list c.args.self.now)) × (c.if-row-cell.seen ≤ p + 1) = elim c.if-row-cell.branch [

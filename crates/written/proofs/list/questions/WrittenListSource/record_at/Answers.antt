@@ -9,7 +9,7 @@ pub returns-in_err-row : goal.returns-in_err-row
 returns-in_err-row c =
     let rows = c.args.self.now.rows.now in
     let none = sym (item_nth rows c.args.position c.get.result c.get.ensures.lookup) ∙ ap (option_map (λ x. x.now)) c.in_err-row.was in
-    ap (option_map instance) c.from-residual.ensures ∙ sym (nth_map row_instance rows c.args.position ∙ ap (option_map row_instance) none)
+    ap (option_map instance) c.from_residual.ensures ∙ sym (nth_map row_instance rows c.args.position ∙ ap (option_map row_instance) none)
 
 pub returns : goal.returns
 returns c =
@@ -18,5 +18,5 @@ returns c =
     let found = sym (item_nth rows c.args.position c.get.result c.get.ensures.lookup) ∙ ap (option_map (λ x. x.now)) c.in_ok-row.was in
     let fits = all_rows_fit c.args.self.now.cells rows c.args.position row c.args.self.now.fit found in
     ap (option_map instance) c.ok.ensures.value
-    ∙ (ok_meant c.from-row.result (row_instance row) (c.from-row.ensures ∙ fits_judged c.args.self.now.cells row fits)
+    ∙ (ok_meant c.from_row.result (row_instance row) (c.from_row.ensures ∙ fits_judged c.args.self.now.cells row fits)
     ∙ sym (nth_map row_instance rows c.args.position ∙ ap (option_map row_instance) found))
