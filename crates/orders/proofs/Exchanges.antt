@@ -12,7 +12,7 @@ use Rattle.orders.proofs.Relations.{orders_compose}
 use Rattle.orders.proofs.Shadows.{version_more}
 use Rattle.orders.proofs.Wholes.{begins_next}
 use Rattle.orders.specs.Faithful.{Conflict, Faithful, Match, touched}
-use Rattle.orders.specs.Taking.{MayTake, VersionsAgree, version}
+use Rattle.orders.specs.Taking.{MayTake, version}
 use Rattle.orders.specs.Theorems.{ExchangeBreaks, ExchangeKeeps}
 
 -- k and the number after it change places

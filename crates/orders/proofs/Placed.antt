@@ -1,5 +1,5 @@
 -- Records and the places in a list that they take, each after all earlier ones that it conflicts with.
-use Rattle.std.proofs.Common.{◌≡◌, ℕ, zero, suc, ◌+◌, ◌<◌, ◌≤◌, Bool, true, false, cond, eqb, ◌⊎◌, List, [], ◌∷◌, ◌++◌, length, Some, Option, sym, refl, ap, ◌∙◌, inl, inr, add-zero, arith, length-append}
+use Rattle.std.proofs.Common.{◌≡◌, ℕ, ◌+◌, ◌<◌, ◌≤◌, cond, eqb, ◌⊎◌, List, [], ◌∷◌, ◌++◌, length, Some, sym, ap, ◌∙◌, inl, inr, arith, length-append}
 use Rattle.std.proofs.lemmas.Bool.{cases_eq, cond-false, cond-true, eq-eqb, ne_eqb}
 use Rattle.std.specs.Option.{option_map}
 use Rattle.std.specs.List.{AllByRecursion as All, slice_get}
@@ -11,9 +11,8 @@ use Rattle.sources.proofs.Writers.{writer_exact}
 use Rattle.sources.specs.Numbers.{total}
 use Rattle.sources.specs.Questions.{earlier, readers, slots_of, writer}
 use Rattle.orders.proofs.Cells.{all_counted, counted_all, earlier_is, readers_is, reads_is, reads_of, reads_same, slots_count, writes_of, writes_only, writes_own, writes_same}
-use Rattle.orders.proofs.Places.{times}
 use Rattle.orders.proofs.Steps.{Begun, Ready, ready_from, ready_reads, ready_same, ready_tally, ready_writes, slots_seen, tally_of, version_of}
-use Rattle.orders.specs.Taking.{MayTake, TallyFull, VersionsAgree, tally, version}
+use Rattle.orders.specs.Taking.{MayTake, TallyFull, tally, version}
 
 -- the instance at p may come after the first n places
 abbrev pub ReadyAt : List Instance → (ℕ → ℕ) → ℕ → ℕ → Type 0

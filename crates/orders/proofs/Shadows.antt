@@ -1,5 +1,5 @@
 -- How a record that is taken changes versions and tallies.
-use Rattle.std.proofs.Common.{◌≡◌, ℕ, suc, ◌+◌, ◌-◌, ◌<◌, ◌≤◌, Bool, true, false, cond, eqb, List, [], ◌∷◌, ◌++◌, sym, refl, ap, ◌∙◌, zero-add, arith}
+use Rattle.std.proofs.Common.{◌≡◌, ℕ, ◌+◌, ◌-◌, Bool, true, false, cond, eqb, List, [], ◌∷◌, ◌++◌, refl, ap, ◌∙◌, zero-add, arith}
 use Rattle.records.specs.Instance.{Instance}
 use Rattle.sources.proofs.Joined.{readers_right, writes_append}
 use Rattle.sources.proofs.Readers.{readers_past}

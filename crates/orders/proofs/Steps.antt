@@ -1,6 +1,6 @@
 -- Taking places one after the other, each after all earlier ones that it conflicts with: what versions and tallies then say.
 -- There are m places; the one at q writes a cell c so often as W c q says, once or never, and reads it in R c q slots.
-use Rattle.std.proofs.Common.{◌≡◌, ℕ, zero, suc, ◌+◌, ◌<◌, ◌≤◌, Bool, true, false, cond, eqb, sym, refl, ap, ◌∙◌, inl, inr, arith}
+use Rattle.std.proofs.Common.{◌≡◌, ℕ, suc, ◌+◌, ◌<◌, ◌≤◌, Bool, true, false, cond, eqb, sym, refl, ap, ◌∙◌, inl, inr, arith}
 use Rattle.std.proofs.lemmas.Bool.{cases_eq, cases_lt, cases_order, cond-false, cond-true, eq-eqb, ne_eqb}
 use Rattle.sources.proofs.Totals.{total_grows, total_one, total_plus, total_same}
 use Rattle.sources.specs.Numbers.{total}

@@ -1,5 +1,5 @@
 -- Deciding whether records conflict, and exchanging two of a slice.
-use Rattle.std.proofs.Common.{◌≡◌, ℕ, zero, suc, ◌+◌, ◌<◌, ◌≤◌, Bool, true, false, ◌⊎◌, List, [], ◌∷◌, ◌++◌, map, length, get_or, set, Some, Decides, sym, refl, ap, ◌∙◌, subst, subst₂, inl, inr, ⊎_elim, add-one, arith}
+use Rattle.std.proofs.Common.{◌≡◌, ℕ, zero, suc, ◌+◌, ◌<◌, Bool, true, false, ◌⊎◌, List, [], ◌∷◌, ◌++◌, map, length, get_or, set, Some, Decides, sym, refl, ap, ◌∙◌, subst₂, inl, inr, add-one, arith}
 use Rattle.std.proofs.lemmas.List.{get_or_default, map-append}
 use Rattle.std.proofs.lemmas.Option.{slice_get_read}
 use Rattle.std.proofs.lemmas.Bool.{both_ways}
@@ -7,7 +7,7 @@ use Rattle.std.specs.Option.{option_map}
 use Rattle.std.specs.List.{ContainsAt as Has, slice_get}
 use Rattle.records.specs.Instance.{Instance}
 use Rattle.sources.proofs.Items.{nth_map}
-use Rattle.orders.proofs.Cells.{count, count_behind, counted_has, has_counted}
+use Rattle.orders.proofs.Cells.{count_behind, counted_has, has_counted}
 use Rattle.orders.proofs.Exchanges.{exchange_keeps}
 use Rattle.orders.specs.Faithful.{Conflict, Faithful}
 use Rattle.orders.specs.Neighbours.{FreeAt}

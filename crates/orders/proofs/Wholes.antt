@@ -1,5 +1,5 @@
 -- Matches, records that have their places, and records that were taken are one thing.
-use Rattle.std.proofs.Common.{◌≡◌, ℕ, zero, suc, ◌+◌, ◌-◌, ◌<◌, ◌≤◌, List, [], ◌∷◌, ◌++◌, length, take, drop, Some, sym, refl, ap, ◌∙◌, subst, inl, inr, arith, length-append}
+use Rattle.std.proofs.Common.{◌≡◌, ℕ, zero, suc, ◌+◌, ◌-◌, ◌<◌, ◌≤◌, List, [], ◌∷◌, ◌++◌, length, take, drop, Some, sym, refl, ap, ◌∙◌, inl, inr, arith, length-append}
 use Rattle.std.proofs.lemmas.List.{append_assoc, append-nil, length-take-le, take_all, take-append-drop}
 use Rattle.std.proofs.lemmas.Bool.{cases_eq, cases_order}
 use Rattle.std.specs.List.{slice_get}
@@ -9,7 +9,7 @@ use Rattle.orders.proofs.Cells.{conflict_at, conflict_reads, conflict_writes, re
 use Rattle.orders.proofs.Placed.{Placed, ReadyAt, next_ready, nth_last, placed_front, placed_more, placed_none, ready_next}
 use Rattle.orders.proofs.Places.{Distinct, distinct_all, distinct_few, distinct_missing, times, times_here, times_there}
 use Rattle.orders.proofs.Steps.{begun_distinct}
-use Rattle.orders.specs.Faithful.{Begins, Conflict, Faithful, Match}
+use Rattle.orders.specs.Faithful.{Begins, Conflict, Match}
 use Rattle.orders.specs.Taking.{MayTake, Taken}
 use Rattle.orders.specs.Theorems.{NextExact, TakenExact, WholeExact}
 

@@ -8,8 +8,8 @@ use Rattle.orders.proofs.Exchanges.{exchange_breaks, exchange_keeps}
 use Rattle.orders.proofs.Swaps.{bound_from, exchange_faithful, free_from}
 use Rattle.orders.proofs.neighbours.exchange.Goals as goal
 
-pub returns-then-at-saturating-sub : goal.returns-then-at-saturating-sub
-returns-then-at-saturating-sub c = record {
+pub returns-then-at-saturating_sub : goal.returns-then-at-saturating_sub
+returns-then-at-saturating_sub c = record {
   answer = (λ e. absurd (false≢true e), λ h. absurd (omega (arith, nth_below (map instance c.args.order.now) (suc c.args.at) h.second h.second_there, length-map c.args.order.now instance)));
   after = refl;
   faithful = λ l h. h;

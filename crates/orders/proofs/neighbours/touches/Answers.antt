@@ -1,7 +1,7 @@
 use Rattle.std.proofs.Common.{eqb, arith}
 use Rattle.std.proofs.lemmas.List.Elements.{contains_decides}
 use Rattle.records.specs.Meaning.{instance}
-use Rattle.orders.proofs.Swaps.{decides_behind, has_front}
+use Rattle.orders.proofs.Swaps.{decides_behind}
 use Rattle.orders.proofs.neighbours.touches.Goals as goal
 use Rattle.std.proofs.lemmas.Bool.Decides.{Decides-eqb}
 
