@@ -123,16 +123,21 @@ fn few_and_many_rounds(rt: HostRuntime) -> Result<(), Fail> {
     Ok(())
 }
 
+/// A list without instances, in layers alone and with another list.
+fn check_empty(rt: &impl Abort, none: WrittenList, list: WrittenList) -> Result<(), Fail> {
+    same(rt, &Rounds::new(none, 65535), &none)?;
+    same(rt, &After::new(none, none), &none)?;
+    same(rt, &After::new(list, none), &list)?;
+    same(rt, &After::new(Rounds::new(none, 3), list), &list)
+}
+
 #[test]
 fn empty_lists(rt: HostRuntime) -> Result<(), Fail> {
     let none = WrittenList::new();
     let rows = [OWN, COPY];
     let mut list = WrittenList::new();
     list.load(2, &rows)?;
-    same(&rt, &Rounds::new(none, 65535), &none)?;
-    same(&rt, &After::new(none, none), &none)?;
-    same(&rt, &After::new(list, none), &list)?;
-    same(&rt, &After::new(Rounds::new(none, 3), list), &list)
+    check_empty(&rt, none, list)
 }
 
 #[test]
