@@ -5,7 +5,7 @@ use Rattle.std.proofs.lemmas.Option.{slice_get_past}
 use Rattle.std.proofs.lemmas.List.Sums.{sum_by-cons}
 use Rattle.std.proofs.lemmas.Bool.{cases_eq, cases_lt, eq-eqb, ne_eqb}
 use Rattle.std.specs.Option.{option_map}
-use Rattle.std.specs.List.{ContainsAt as Has, AllByRecursion as All, slice_get}
+use Rattle.std.specs.List.{ContainsAt, AllByRecursion, slice_get}
 use Rattle.records.specs.Instance.{Instance}
 use Rattle.sources.specs.Numbers.{total}
 use Rattle.sources.specs.Questions.{earlier, readers, slots_at, slots_of, writes_at}
@@ -95,7 +95,7 @@ pub count_behind : (c x : ℕ) (cs : List ℕ) → (x ≡ c → ⊥) → count c
 count_behind c x cs ne = omega (arith, count_cons c x cs, ap {B = ℕ} (λ (t : Bool). cond t 1 0) (ne_eqb x c ne))
 
 -- what holds of all elements holds of each that is counted, and the other way round
-pub all_counted : (P : ℕ → Type 0) (cs : List ℕ) → All P cs → (c : ℕ) → 1 ≤ count c cs → P c
+pub all_counted : (P : ℕ → Type 0) (cs : List ℕ) → AllByRecursion P cs → (c : ℕ) → 1 ≤ count c cs → P c
 all_counted P [] h c n = absurd (omega (arith, nothing))
   where
     nothing : count c [] ≡ 0
@@ -106,14 +106,14 @@ all_counted P (x ∷ cs) h c n =
       | inr ne ↦ all_counted P cs h.1 c (omega (arith, count_behind c x cs ne))
     ]
 
-pub counted_all : (P : ℕ → Type 0) (cs : List ℕ) → ((c : ℕ) → 1 ≤ count c cs → P c) → All P cs
+pub counted_all : (P : ℕ → Type 0) (cs : List ℕ) → ((c : ℕ) → 1 ≤ count c cs → P c) → AllByRecursion P cs
 counted_all P [] h = tt
 counted_all P (x ∷ cs) h = (h x (count_front x x cs refl), counted_all P cs (λ c n. h c (omega (arith, count_cons c x cs))))
 
-pub counted_has : (c : ℕ) (cs : List ℕ) → 1 ≤ count c cs → Has cs c
-counted_has c cs n = all_counted (Has cs) cs (all_has_itself cs) c n
+pub counted_has : (c : ℕ) (cs : List ℕ) → 1 ≤ count c cs → ContainsAt cs c
+counted_has c cs n = all_counted (ContainsAt cs) cs (all_has_itself cs) c n
 
-pub has_counted : (c : ℕ) (cs : List ℕ) → Has cs c → 1 ≤ count c cs
+pub has_counted : (c : ℕ) (cs : List ℕ) → ContainsAt cs c → 1 ≤ count c cs
 has_counted c cs h = all-has (λ x. 1 ≤ count x cs) cs c (counted_all (λ x. 1 ≤ count x cs) cs (λ x n. n)) h
 
 -- an instance touches the cells that it writes or reads

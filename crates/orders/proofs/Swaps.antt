@@ -4,7 +4,7 @@ use Rattle.std.proofs.lemmas.List.{get_or_default, map-append}
 use Rattle.std.proofs.lemmas.Option.{slice_get_read}
 use Rattle.std.proofs.lemmas.Bool.{both_ways}
 use Rattle.std.specs.Option.{option_map}
-use Rattle.std.specs.List.{ContainsAt as Has, slice_get}
+use Rattle.std.specs.List.{ContainsAt, slice_get}
 use Rattle.records.specs.Instance.{Instance}
 use Rattle.sources.proofs.Items.{nth_map}
 use Rattle.orders.proofs.Cells.{count_behind, counted_has, has_counted}
@@ -13,11 +13,11 @@ use Rattle.orders.specs.Faithful.{Conflict, Faithful}
 use Rattle.orders.specs.Neighbours.{FreeAt}
 
 -- a list has y where it stands in front
-pub has_front : (x y : ℕ) (xs : List ℕ) → x ≡ y → Has (x ∷ xs) y
+pub has_front : (x y : ℕ) (xs : List ℕ) → x ≡ y → ContainsAt (x ∷ xs) y
 has_front x y xs e = (0, omega arith, λ d. e)
 
 -- and otherwise where it is behind
-pub decides_behind : (x y : ℕ) (xs : List ℕ) (r : Bool) → (x ≡ y → ⊥) → Decides r (Has xs y) → Decides r (Has (x ∷ xs) y)
+pub decides_behind : (x y : ℕ) (xs : List ℕ) (r : Bool) → (x ≡ y → ⊥) → Decides r (ContainsAt xs y) → Decides r (ContainsAt (x ∷ xs) y)
 decides_behind x y xs r ne (yes_if, if_yes) = (
   λ e. counted_has y (x ∷ xs) (omega (arith, count_behind y x xs ne, has_counted y xs (yes_if e))),
   λ h. if_yes (counted_has y xs (omega (arith, count_behind y x xs ne, has_counted y (x ∷ xs) h))),

@@ -1,6 +1,6 @@
 //! Neighbours of an order: whether two records conflict, and exchanging two that do not.
 ghost use Rattle.std.specs.Prelude.{◌≡◌, ◌+◌, List, map, if◌then◌else◌, Decides};
-ghost use Rattle.std.specs.List.{ContainsAt as Has, swap};
+ghost use Rattle.std.specs.List.{ContainsAt, swap};
 ghost use Rattle.records.specs.Instance.{Instance};
 ghost use Rattle.records.specs.Meaning.{instance};
 ghost use Rattle.orders.specs.Faithful.{Conflict, Faithful, touched};
@@ -11,7 +11,7 @@ use records::Record;
 
 /// Does a record write or read a cell?
 fn touches(record: &Record, cell: u16) -> bool
-    ensures { Decides result (Has (touched (instance «record».now)) cell) }
+    ensures { Decides result (ContainsAt (touched (instance «record».now)) cell) }
 {
     if record.written() == cell {
         return true;

@@ -4,7 +4,7 @@ use Rattle.std.proofs.Common.{arith, length-take}
 use Rattle.std.proofs.lemmas.List.{length-map}
 use Rattle.std.proofs.lemmas.Bool.{and_parts, false≢true, ltb-false, ltb-true, true≢false}
 use Rattle.std.specs.Option.{option_map}
-use Rattle.std.specs.List.{AllByRecursion as All}
+use Rattle.std.specs.List.{AllByRecursion}
 use Rattle.records.specs.Instance.{Instance}
 use Rattle.records.specs.Meaning.{row_instance}
 use Rattle.records.specs.declared.fault.RecordFault.TheVariants.{Operator, Reads}
@@ -18,7 +18,7 @@ abbrev pub rows_list : WrittenList → List Instance
 rows_list w = map row_instance w.rows.now
 
 -- cells that pass the test are below C
-below_all : (C : ℕ) (cs : List ℕ) → all_below C cs ≡ true → All (λ c. c < C) cs
+below_all : (C : ℕ) (cs : List ℕ) → all_below C cs ≡ true → AllByRecursion (λ c. c < C) cs
 below_all C [] e = tt
 below_all C (c ∷ cs) e = let (a, b) = and_parts (nat_lt c C) (all_below C cs) e in (ltb-true c C a, below_all C cs b)
 
@@ -55,7 +55,7 @@ fit_first true None e = (refl, refl)
 fit_first true (Some x) e = absurd (true≢false e)
 fit_first false o e = absurd (true≢false e)
 
-all_fit : (C : ℕ) (rs : List Row) → is_some (first_misfit C rs) ≡ false → All (Fitting C) (map row_instance rs)
+all_fit : (C : ℕ) (rs : List Row) → is_some (first_misfit C rs) ≡ false → AllByRecursion (Fitting C) (map row_instance rs)
 all_fit C [] e = tt
 all_fit C (r ∷ rs) e = let (a, b) = fit_first (row_fits C r) (first_misfit C rs) e in (fitting C r a, all_fit C rs b)
 
