@@ -7,7 +7,7 @@ use crate::reader::TraceReader;
 impl<'a> TraceReader<'a> {
     /// A reader at the start of a trace.
     pub fn new(bytes: &'a [u8]) -> TraceReader<'a>
-        ensures { cursor result ≡ record { bytes = bytes.entry.now; start = 0; place = 0 } }
+        ensures { cursor result ≡ record { bytes = bytes.now; start = 0; place = 0 } }
     {
         TraceReader {
             bytes,

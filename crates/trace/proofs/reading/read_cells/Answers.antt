@@ -5,6 +5,6 @@ use Rattle.trace.proofs.reading.read_cells.Goals as goal
 
 pub loop-k-preserved : goal.loop-k-preserved
 loop-k-preserved c = (
-  length-set c.loop-k.cells c.loop-k.k c.read-cell.result ∙ c.loop-k.invariant.0,
-  cells_more c.args.bytes.now c.loop-k.cells c.args.place c.loop-k.k c.read-cell.result (omega arith) c.loop-k.invariant.1 c.read-cell.ensures,
+  length-set c.loop-k.cells c.loop-k.k c.read_cell.result ∙ c.loop-k.invariant.0,
+  cells_more c.args.bytes.now c.loop-k.cells c.args.place c.loop-k.k c.read_cell.result (omega arith) c.loop-k.invariant.1 c.read_cell.ensures,
 )

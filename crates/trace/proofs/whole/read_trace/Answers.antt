@@ -10,8 +10,8 @@ use Rattle.trace.proofs.whole.read_trace.Goals as goal
 
 pub returns-in_err-record : goal.returns-in_err-record
 returns-in_err-record c =
-    let p = err_from_is_err_and c.from-residual.result c.from-residual.ensures.1 in
-    let go = stepped_on (cursor c.loop-records.reader) _ _ c.in_err-record.ensures.answer c.next-record.ensures.after in
+    let p = err_from_is_err_and c.from_residual.result c.from_residual.ensures.1 in
+    let go = stepped_on (cursor c.loop-records.reader) _ _ c.in_err-record.ensures.answer c.next_record.ensures.after in
     let is = sym c.loop-records.invariant.1 ∙ ahead_end (map instance (vec_items c.loop-records.records)) (rest_of (cursor c.loop-records.reader)) (Some _) go in
     let at = c.args.bytes.now in
     rw (p.1, p.2) (record { answer = ap (λ (w : Walk). w.stop) is; spelled = (_, ends_as at _ is); exact = finds_all at })
@@ -19,31 +19,31 @@ returns-in_err-record c =
 pub loop-records-smaller : goal.loop-records-smaller
 loop-records-smaller c =
     let at = cursor c.loop-records.reader in
-    let to = cursor c.next-record.new.self in
-    let go = stepped_on at to _ (rw c.in-Some.is at c.in_ok-record.ensures.answer) c.next-record.ensures.after in
-    omega (arith, go.1, ap length (same_bytes at to c.next-record.ensures.after))
+    let to = cursor c.next_record.new.self in
+    let go = stepped_on at to _ (rw c.in-Some.is at c.in_ok-record.ensures.answer) c.next_record.ensures.after in
+    omega (arith, go.1, ap length (same_bytes at to c.next_record.ensures.after))
 
 pub loop-records-preserved : goal.loop-records-preserved
 loop-records-preserved c =
     let at = cursor c.loop-records.reader in
-    let to = cursor c.next-record.new.self in
+    let to = cursor c.next_record.new.self in
     let was = vec_items c.loop-records.records in
     let new = c.in-Some.«record» in
-    let go = stepped_on at to _ (rw c.in-Some.is at c.in_ok-record.ensures.answer) c.next-record.ensures.after in
+    let go = stepped_on at to _ (rw c.in-Some.is at c.in_ok-record.ensures.answer) c.next_record.ensures.after in
     let items = ap (map instance) c.in_ok-push.ensures.items ∙ map_push instance was new in (
-      same_bytes at to c.next-record.ensures.after ∙ c.loop-records.invariant.0,
+      same_bytes at to c.next_record.ensures.after ∙ c.loop-records.invariant.0,
       ap (λ (l : List Instance). ahead l (rest_of to)) items ∙ (sym (ahead_more (map instance was) (instance new) (rest_of at) (rest_of to) go.0) ∙ c.loop-records.invariant.1),
     )
 
 pub returns-in_err-push : goal.returns-in_err-push
 returns-in_err-push c =
-    let p = err_from_is_err_and c.from-residual-in_err-push.result c.from-residual-in_err-push.ensures.1 in
+    let p = err_from_is_err_and c.from_residual-in_err-push.result c.from_residual-in_err-push.ensures.1 in
     rw (p.1, p.2) (record { answer = tt; spelled = tt; exact = finds_all c.args.bytes.now })
 
 pub returns : goal.returns
 returns c =
     let at = cursor c.loop-records.reader in
-    let go = stepped_on at (cursor c.next-record.new.self) _ (rw c.in_default.is at c.in_ok-record.ensures.answer) c.next-record.ensures.after in
+    let go = stepped_on at (cursor c.next_record.new.self) _ (rw c.in_default.is at c.in_ok-record.ensures.answer) c.next_record.ensures.after in
     let is = sym c.loop-records.invariant.1 ∙ ahead_end (map instance (vec_items c.loop-records.records)) (rest_of at) None go in
     record {
       answer = is;

@@ -26,12 +26,12 @@ returns c =
     let w : c.from-2.result ≡ bit y.written = search rules in
     let operator : List ℕ = take (c.from.result - 0) (c.operator.result ∷ []) in
     let written : List ℕ = take (c.from-2.result - 0) (c.written.result ∷ []) in
-    let room_for : c.write-cells-place.result + 2 * length c.reads.result.now ≤ length c.args.out.now =
+    let room_for : c.write_cells-place.result + 2 * length c.reads.result.now ≤ length c.args.out.now =
     omega (
       arith,
-      c.write-bytes-place.ensures.end,
-      c.write-bytes-place-2.ensures.end,
-      c.write-cells-place.ensures.end,
+      c.write_bytes-place.ensures.end,
+      c.write_bytes-place-2.ensures.end,
+      c.write_cells-place.ensures.end,
       length_part y.operator c.from.result c.operator.result o,
       length_part y.written c.from-2.result c.written.result w,
       ap length c.reads.ensures,
@@ -44,24 +44,24 @@ returns c =
       operator = operator;
       written = written;
       reads = c.reads.result.now;
-      m = c.write-bytes-place.result;
-      n = c.write-bytes-place-2.result;
-      k = c.write-cells-place.result;
-      out₁ = c.write-bytes-place.new.out;
-      out₂ = c.write-bytes-place-2.new.out;
-      out₃ = c.write-cells-place.new.out;
-      out₄ = c.write-cells.new.out;
+      m = c.write_bytes-place.result;
+      n = c.write_bytes-place-2.result;
+      k = c.write_cells-place.result;
+      out₁ = c.write_bytes-place.new.out;
+      out₂ = c.write_bytes-place-2.new.out;
+      out₃ = c.write_cells-place.new.out;
+      out₄ = c.write_cells.new.out;
       byte_is = c.byte.ensures ∙ ap byte_of is;
       operator_is = part_set y.operator c.from.result c.operator.result o ∙ (λ j. if_set (is j).operator (c.operator.ensures j));
       written_is = part_set y.written c.from-2.result c.written.result w ∙ (λ j. if_set (is j).written (c.written.ensures j));
       reads_are = c.reads.ensures;
-      m_is = c.write-bytes-place.ensures.end;
-      n_is = c.write-bytes-place-2.ensures.end;
-      k_is = c.write-cells-place.ensures.end;
+      m_is = c.write_bytes-place.ensures.end;
+      n_is = c.write_bytes-place-2.ensures.end;
+      k_is = c.write_cells-place.ensures.end;
       fits = room_for;
-      first = c.write-bytes-place.ensures.after;
-      second = c.write-bytes-place-2.ensures.after;
-      third = c.write-cells-place.ensures.after;
-      fourth = c.write-cells.ensures.after;
+      first = c.write_bytes-place.ensures.after;
+      second = c.write_bytes-place-2.ensures.after;
+      third = c.write_cells-place.ensures.after;
+      fourth = c.write_cells.ensures.after;
     } in
     record { answer = r.0; after = all_written i c.args.out.now all ∙ r.1; shortest = is_shortest i h; reads_back = reads_back i h }

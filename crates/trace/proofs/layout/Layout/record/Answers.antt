@@ -11,13 +11,13 @@ pub returns-in-Ok : goal.returns-in-Ok
 returns-in-Ok c =
     let bs : List ℕ = c.args.bytes.now in
     let y = fields c.args.self.now in
-    let made : Instance = record { operator = c.if-self.operator; written = c.read-cell-written.result; reads = take y.reads c.read-cells-reads.result } in
+    let made : Instance = record { operator = c.if-self.operator; written = c.read_cell-written.result; reads = take y.reads c.read_cells-reads.result } in
     let operator : c.if-self.operator ≡ cond y.operator (get_or bs 1 0) 0 = search rules in
     let first : c.from-first.result ≡ bit y.operator = search rules in
     let second : c.from.result ≡ bit y.written = search rules in
     record_is c.args.place bs y (instance c.in-Ok.record) (omega arith)
     (made_from y.reads made (instance c.in-Ok.record) c.in-Ok.ensures
     ∙ found_is bs y made c.args.self.now.some operator
-    (c.read-cell-written.ensures ∙ ap (λ (n : ℕ). cell_at bs (1 + n)) first)
-    (c.read-cells-reads.ensures ∙ (λ i. cells_in y.reads (drop (1 + first i + 2 * second i) bs))))
+    (c.read_cell-written.ensures ∙ ap (λ (n : ℕ). cell_at bs (1 + n)) first)
+    (c.read_cells-reads.ensures ∙ (λ i. cells_in y.reads (drop (1 + first i + 2 * second i) bs))))
     c.in-Ok.record.operator_fits
