@@ -12,7 +12,7 @@ pub returns-in-Err-clause-writes : goal.returns-in-Err-clause-writes
 returns-in-Err-clause-writes g c =
     λ p ok. let (bs, put, eq) = c.loop-next.invariant.2 p in
     let at = cursor c.loop-next.reader in
-    let go = stepped_on at (cursor c.next-record.new.self) _ c.in-Err.ensures.answer c.next-record.ensures.after in
+    let go = stepped_on at (cursor c.next_record.new.self) _ c.in-Err.ensures.answer c.next_record.ensures.after in
     let whole_text = ap (λ (w : Walk). bs ++ told c.loop-next.count w) (sym go) ∙ (eq ∙ sym (short c.args.self.now.bytes.now (omega arith))) in
     has_written_of_eq g.W.Write.write_str_gives _ _ _ _ whole_text
     (has_written_append g.W.Write.write_str_gives _ _ _ _ _ put (c.write-in-Err.ensures.writes put.plain ok))
@@ -21,7 +21,7 @@ pub returns-in_default-clause-writes : goal.returns-in_default-clause-writes
 returns-in_default-clause-writes g c =
     λ p ok. let (bs, put, eq) = c.loop-next.invariant.2 p in
     let at = cursor c.loop-next.reader in
-    let go = stepped_on at (cursor c.next-record.new.self) _ (rw c.in_default.is at c.in-Ok.ensures.answer) c.next-record.ensures.after in
+    let go = stepped_on at (cursor c.next_record.new.self) _ (rw c.in_default.is at c.in-Ok.ensures.answer) c.next_record.ensures.after in
     let whole_text = ap (λ (w : Walk). bs ++ told c.loop-next.count w) (sym go) ∙ (eq ∙ sym (short c.args.self.now.bytes.now (omega arith))) in
     has_written_of_eq g.W.Write.write_str_gives _ _ _ _ whole_text
     (has_written_append g.W.Write.write_str_gives _ _ _ _ _ put (c.write-in_default.ensures.writes put.plain ok))
@@ -29,17 +29,17 @@ returns-in_default-clause-writes g c =
 pub loop-next-smaller : goal.loop-next-smaller
 loop-next-smaller g c =
     let at = cursor c.loop-next.reader in
-    let to = cursor c.next-record.new.self in
-    let go = stepped_on at to _ (rw c.in-Some.is at c.in-Ok.ensures.answer) c.next-record.ensures.after in
-    omega (arith, go.1, ap length (same_bytes at to c.next-record.ensures.after))
+    let to = cursor c.next_record.new.self in
+    let go = stepped_on at to _ (rw c.in-Some.is at c.in-Ok.ensures.answer) c.next_record.ensures.after in
+    omega (arith, go.1, ap length (same_bytes at to c.next_record.ensures.after))
 
 pub loop-next-preserved : goal.loop-next-preserved
 loop-next-preserved g c =
     let at = cursor c.loop-next.reader in
-    let to = cursor c.next-record.new.self in
+    let to = cursor c.next_record.new.self in
     let new = instance c.in-Some.«record» in
-    let go = stepped_on at to _ (rw c.in-Some.is at c.in-Ok.ensures.answer) c.next-record.ensures.after in (
-      same_bytes at to c.next-record.ensures.after ∙ c.loop-next.invariant.0,
+    let go = stepped_on at to _ (rw c.in-Some.is at c.in-Ok.ensures.answer) c.next_record.ensures.after in (
+      same_bytes at to c.next_record.ensures.after ∙ c.loop-next.invariant.0,
       omega (arith, go.1, c.loop-next.invariant.1),
       λ p. let (bs, put, eq) = c.loop-next.invariant.2 p in
           let more = c.in_ok-write.ensures.writes put.plain refl in
