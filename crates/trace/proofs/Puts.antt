@@ -1,14 +1,7 @@
 -- Bytes put one after the other.
-use Rattle.std.proofs.Common.{◌≡◌, ℕ, ◌+◌, ◌*◌, ◌/◌, ◌%◌, ◌<◌, ◌≤◌, List, [], ◌∷◌, ◌++◌, length, get_or, take, drop, sym, refl, ap, ◌∙◌, subst, append_assoc, add-zero, arith, length-append}
-use borrow.Rule.Slice.PartMut.{put_mid}
-use Rattle.std.proofs.lemmas.List.{take-append-drop, take_at, take_more, drop_at, drop-drop, length-take-le}
+use Rattle.std.proofs.Common.{◌≡◌, ℕ, ◌+◌, ◌*◌, ◌/◌, ◌%◌, ◌<◌, ◌≤◌, List, [], ◌∷◌, ◌++◌, length, get_or, take, drop, sym, refl, ap, ◌∙◌, subst, append_assoc, arith, length-append}
+use Rattle.std.proofs.lemmas.List.{take_at, take_more, drop_at, drop-drop, length-take-le}
 use Rattle.trace.specs.Writing.{cell_bytes, put}
-
--- a copy into a part of a slice
-pub part_put : (n k : ℕ) (bs ys out : List ℕ) → ys ≡ bs → k ≡ length bs → put_mid n k out ys ≡ put n bs out
-part_put n k bs ys out e q =
-    (λ i. take n out ++ (e i ++ drop-drop k n out i))
-    ∙ ap (λ (j : ℕ). take n out ++ (bs ++ drop (n + j) out)) q
 
 module _ (n : ℕ) (s out : List ℕ) (fits : n + length s ≤ length out) where
   front : length (take n out ++ s) ≡ n + length s
@@ -52,10 +45,6 @@ cell_bytes_more cs bs i lt small e =
     let high : x / 256 % 256 ≡ x / 256 = omega arith in
     ap (λ (l : List ℕ). cell_bytes (take i cs) ++ l) (e ∙ ap (λ (h : ℕ). x % 256 ∷ (h ∷ [])) high)
     ∙ sym (ap cell_bytes (take_more cs i 0 lt) ∙ cell_bytes_append (take i cs) (get_or cs i 0 ∷ []))
-
--- nothing put
-pub put_none : (n : ℕ) (out : List ℕ) → out ≡ put n [] out
-put_none n out = sym (ap (λ (k : ℕ). take n out ++ drop k out) (add-zero n) ∙ take-append-drop n out)
 
 -- four pieces, one after the other from the front on
 pub four_puts : (out a b c d : List ℕ) (m n k : ℕ) → m ≡ length a → n ≡ m + length b → k ≡ n + length c → k + length d ≤ length out → put k d (put n c (put m b (put 0 a out))) ≡ put 0 (((a ++ b) ++ c) ++ d) out

@@ -11,11 +11,6 @@ use Rattle.trace.specs.Spelling.{Hold, Spells}
 use Rattle.trace.specs.Writing.{ReadsBack, Shortest, cell_bytes, is_first, put, shortest, shortest_fields, write_answer, written_to}
 use Rattle.trace.specs.declared.fault.WriteFault.TheVariants.{NoRoom}
 
--- some cell stands in it
-pub some_stands : (c : ℕ) (rs : List ℕ) → 0 < bit (not (is_first c rs)) + length rs
-some_stands c [] = omega arith
-some_stands c (r ∷ rs) = omega arith
-
 hold_bytes : (cs : List ℕ) → Hold (cell_bytes cs) cs
 hold_bytes [] = tt
 hold_bytes (c ∷ cs) = (omega arith, hold_bytes cs)

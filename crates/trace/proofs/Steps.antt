@@ -1,6 +1,6 @@
 -- A reader's step finds exactly what is spelled.
-use Rattle.std.proofs.Common.{◌≡◌, ℕ, ◌+◌, ◌-◌, ◌≤◌, List, ◌++◌, length, take, drop, Some, None, Ok, Err, Option, Result, sym, refl, ap, ◌∙◌, subst, arith}
-use Rattle.std.proofs.lemmas.List.{take-append-drop, take_rest, drop-drop, length-drop}
+use Rattle.std.proofs.Common.{◌≡◌, ℕ, ◌+◌, ◌-◌, List, ◌++◌, length, take, drop, Some, None, Ok, Err, Option, Result, sym, refl, ap, ◌∙◌, subst, arith}
+use Rattle.std.proofs.lemmas.List.{take-append-drop, take_rest, drop-drop}
 use Rattle.records.specs.Instance.{Instance}
 use Rattle.trace.proofs.Apart.{err_ok}
 use Rattle.trace.proofs.Exact.{spelled_read}
@@ -29,15 +29,6 @@ step_by c (Err f) e = (
   (λ s t i q h. err_ok f (Some _) (sym e ∙ (ap (read_at c.place) q ∙ spelled_read s t i h c.place))),
   refl,
 )
-
--- a step stays within the trace
-step_within_by : (c : Cursor) (r : Result (Option Piece) ReadFault) → c.place ≤ length c.bytes → read_at c.place (left c) ≡ r → ((stepped c r).bytes ≡ c.bytes) × (c.place ≤ (stepped c r).place) × ((stepped c r).place ≤ length c.bytes)
-step_within_by c (Ok None) h e = (refl, omega arith, h)
-step_within_by c (Ok (Some x)) h e = (refl, omega arith, omega (arith, (read_spelled c.place (left c) x e).1, length-drop c.place c.bytes))
-step_within_by c (Err f) h e = (refl, omega arith, h)
-
-pub step_within : (c : Cursor) → c.place ≤ length c.bytes → ((after c).bytes ≡ c.bytes) × (c.place ≤ (after c).place) × ((after c).place ≤ length c.bytes)
-step_within c h = step_within_by c (read_at c.place (left c)) h refl
 
 -- what a step answers and leaves, once it is known what was read
 pub record Step (c : Cursor) (r : Result (Option Instance) ReadFault) (d : Cursor) : Type 0 where

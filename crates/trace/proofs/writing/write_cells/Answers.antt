@@ -1,11 +1,8 @@
 use Rattle.std.proofs.Common.{◌≡◌, ℕ, ◌*◌, List, length, take, ap, ◌∙◌, arith}
-use Rattle.std.proofs.lemmas.List.{length-take-le, take_all}
-use Rattle.trace.proofs.Puts.{cell_bytes_more, length_cell_bytes, put_more, put_none}
+use Rattle.std.proofs.lemmas.List.{length-take-le}
+use Rattle.trace.proofs.Puts.{cell_bytes_more, length_cell_bytes, put_more}
 use Rattle.trace.specs.Writing.{cell_bytes, put}
 use Rattle.trace.proofs.writing.write_cells.Goals as goal
-
-pub loop-cell-init : goal.loop-cell-init
-loop-cell-init c = (omega arith, put_none c.args.place c.args.out.now)
 
 pub loop-cell-preserved : goal.loop-cell-preserved
 loop-cell-preserved c =
@@ -21,11 +18,3 @@ loop-cell-preserved c =
           ∙ (put_more c.args.place c.loop-cell.end (cell_bytes (take i cells)) c.to_le_bytes.result c.args.out.now (omega arith) (omega arith)
           ∙ ap (λ (l : List ℕ). put c.args.place l c.args.out.now) more)),
     )
-
-pub returns : goal.returns
-returns c =
-    let all = take_all c.loop-cell.cell-index c.args.cells.now c.loop-cell-test.false in
-    record {
-      end = omega arith;
-      after = c.loop-cell.invariant.1 ∙ ap (λ (l : List ℕ). put c.args.place (cell_bytes l) c.args.out.now) all;
-    }

@@ -1,6 +1,5 @@
-use Rattle.std.proofs.Common.{refl}
 use Rattle.listing.proofs.Texts.{lists}
 use Rattle.listing.proofs.listing.Listing.new.Goals as goal
 
-pub returns : goal.returns
-returns c = record { bytes = refl; lists = lists c.args.bytes.now }
+pub returns-clause-lists : goal.returns-clause-lists
+returns-clause-lists c = lists c.args.bytes.now

@@ -1,4 +1,4 @@
-use Rattle.std.proofs.Common.{◌+◌, ◌++◌, length, sym, refl, ap, ◌∙◌, arith}
+use Rattle.std.proofs.Common.{◌+◌, ◌++◌, sym, refl, ap, ◌∙◌, arith}
 use Rattle.std.proofs.Output.{has_written_of_eq, has_written_append}
 use Rattle.records.specs.Meaning.{instance}
 use Rattle.trace.proofs.Walks.{rest_of, same_bytes, stepped_on}
@@ -25,13 +25,6 @@ returns-in_default-clause-writes g c =
     let whole_text = ap (λ (w : Walk). bs ++ told c.loop-next.count w) (sym go) ∙ (eq ∙ sym (short c.args.self.now.bytes.now (omega arith))) in
     has_written_of_eq g.W.Write.write_str_gives _ _ _ _ whole_text
     (has_written_append g.W.Write.write_str_gives _ _ _ _ _ put (c.write-in_default.ensures.writes put.plain ok))
-
-pub loop-next-smaller : goal.loop-next-smaller
-loop-next-smaller g c =
-    let at = cursor c.loop-next.reader in
-    let to = cursor c.next_record.new.self in
-    let go = stepped_on at to _ (rw c.in-Some.is at c.in-Ok.ensures.answer) c.next_record.ensures.after in
-    omega (arith, go.1, ap length (same_bytes at to c.next_record.ensures.after))
 
 pub loop-next-preserved : goal.loop-next-preserved
 loop-next-preserved g c =
