@@ -1,10 +1,9 @@
 -- A map byte tells its fields, and no other byte tells them.
 use Rattle.std.proofs.Common.{◌≡◌, ℕ, zero, suc, ◌+◌, ◌-◌, ◌*◌, ◌/◌, ◌%◌, ◌^◌, ◌<◌, ◌≤◌, Bool, true, false, cond, not, ◌&&◌, eqb, ltb, Some, None, Ok, Err, Option, refl, ap, ◌∙◌, subst, arith}
 use Rattle.std.proofs.lemmas.Bool.{eqb-false, eqb-true}
-use Rattle.trace.proofs.Apart.{err_ok, none_some}
 use Rattle.trace.specs.Layouts.{Fields, bit, byte_of, cells_of}
 use Rattle.trace.specs.Reading.{reads_in, without_gap, layout_at}
-use Rattle.trace.specs.declared.fault.ReadFault.TheVariants.{HighBit, Gap, NoCell}
+use Rattle.trace.specs.declared.fault.ReadFault.TheVariants.{HighBit, NoCell}
 
 each : (P : Bool → Bool → Type 0) → P true true → P true false → P false true → P false false → (o w : Bool) → P o w
 each P a b c d true true = a
@@ -44,7 +43,7 @@ module _ (r n : ℕ) where
       (one_case 3 2 _ (eqb r 3) refl refl (omega arith)
       (one_case 7 3 _ (eqb r 7) refl refl (omega arith)
       (one_case 15 4 _ (eqb r 15) refl refl (omega arith)
-      (one_case 31 5 None (eqb r 31) refl refl (omega arith) (λ e. absurd (none_some n e)))))))
+      (one_case 31 5 None (eqb r 31) refl refl (omega arith) (λ e. cc))))))
 
 bit_is : (x : ℕ) → x < 2 → bit (eqb x 1) ≡ x
 bit_is zero h = refl
@@ -65,12 +64,12 @@ some_cell true n q = omega arith
 some_cell false n q = omega (arith, eqb-false n 0 q)
 
 with_cell_told : (p : ℕ) (x y : Fields) (t : Bool) → cond t (Err (NoCell p)) (Ok x) ≡ Ok y → (not x.written && eqb x.reads 0) ≡ t → (x ≡ y) × (0 < cells_of x)
-with_cell_told p x y true e q = absurd (err_ok (NoCell p) y e)
+with_cell_told p x y true e q = cc
 with_cell_told p x y false e q = (cc, some_cell x.written x.reads q)
 
 told_by : (p b : ℕ) (y : Fields) (t : Bool) (o : Option ℕ) → reads_in (b / 4) ≡ o → cond t (Err (HighBit p)) (without_gap p b o) ≡ Ok y → Told b y
-told_by p b y true o q e = absurd (err_ok (HighBit p) y e)
-told_by p b y false None q e = absurd (err_ok (Gap p) y e)
+told_by p b y true o q e = cc
+told_by p b y false None q e = cc
 told_by p b y false (Some n) q e =
     let x : Fields = record { operator = eqb (b % 2) 1; written = eqb (b / 2 % 2) 1; reads = n } in
     let made = with_cell_told p x y (not x.written && eqb n 0) e refl in

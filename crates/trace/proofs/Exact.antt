@@ -4,7 +4,6 @@ use Rattle.std.proofs.lemmas.List.{take_at}
 use Rattle.std.specs.List.{slice_get}
 use Rattle.records.proofs.Parts.{same_parts}
 use Rattle.records.specs.Instance.{Instance}
-use Rattle.trace.proofs.Apart.{none_some}
 use Rattle.trace.proofs.Bytes.{byte_tells}
 use Rattle.trace.proofs.Found.{record_is}
 use Rattle.trace.proofs.Held.{length_held, cells_held}
@@ -29,7 +28,7 @@ count_is false c rs n e = omega arith
 
 some_is : (w : Bool) (c : ℕ) (rs : List ℕ) → (w ≡ false → slice_get rs 0 ≡ Some c) → 0 < length (if_set w c ++ rs)
 some_is true c rs h = omega arith
-some_is false c [] h = absurd (none_some c (h refl))
+some_is false c [] h = let z = h refl in cc
 some_is false c (r ∷ rs) h = omega arith
 
 operator_is : (o : Bool) (c b : ℕ) (xs : List ℕ) → (o ≡ false → c ≡ 0) → cond o (get_or (b ∷ (if_set o c ++ xs)) 1 0) 0 ≡ c

@@ -1,4 +1,3 @@
-mod Apart
 mod Bytes
 mod Cells
 mod Exact

@@ -3,7 +3,6 @@ use Rattle.std.proofs.Common.{◌≡◌, ℕ, ◌+◌, ◌-◌, ◌*◌, ◌<◌
 use Rattle.std.proofs.lemmas.Bool.{eqb-true, eq-eqb, le-ltb, lt-ltb, not-false, true≢false}
 use Rattle.std.specs.List.{slice_get}
 use Rattle.records.specs.Instance.{Instance, Recordable}
-use Rattle.trace.proofs.Apart.{none_some}
 use Rattle.trace.proofs.Exact.{size_is, spelled_read}
 use Rattle.trace.proofs.Puts.{cell_bytes_append, four_puts, length_cell_bytes}
 use Rattle.trace.specs.Layouts.{bit, byte_of, if_set, size_of}
@@ -42,7 +41,7 @@ operator_least false c h = rw (h refl) (omega arith)
 
 written_least : (w : Bool) (c : ℕ) (rs : List ℕ) → (w ≡ false → slice_get rs 0 ≡ Some c) → bit (not (is_first c rs)) ≤ bit w
 written_least true c rs h = at_most_one (not (is_first c rs))
-written_least false c [] h = absurd (none_some c (h refl))
+written_least false c [] h = let z = h refl in cc
 written_least false c (r ∷ rs) h =
     let e = h refl in
     let same : c ≡ r = cc in

@@ -5,7 +5,6 @@ use Rattle.std.proofs.lemmas.List.{length-drop}
 use Rattle.std.proofs.lemmas.Bool.{ltb-false, true≢false}
 use Rattle.std.specs.List.{slice_get}
 use Rattle.records.specs.Instance.{Instance}
-use Rattle.trace.proofs.Apart.{err_ok, ok_none_some}
 use Rattle.trace.proofs.Bytes.{Told, byte_from}
 use Rattle.trace.proofs.Held.{held_cells}
 use Rattle.trace.specs.Layouts.{Fields, bit, cells_of, size_of, if_set}
@@ -16,7 +15,7 @@ use Rattle.trace.specs.declared.fault.ReadFault.TheVariants.{PastEnd, Operator}
 
 then_ok : {A B E : Type 0} (r : Result A E) (f : A → Result B E) (x : B) → and_then r f ≡ Ok x → (a : A) × (r ≡ Ok a) × (f a ≡ Ok x)
 then_ok (Ok a) f x e = (a, refl, e)
-then_ok (Err d) f x e = absurd (err_ok d x e)
+then_ok (Err d) f x e = cc
 
 -- what a record that was found is
 pub record Within (bs : List ℕ) (y : Fields) (i : Instance) : Type 0 where
@@ -25,8 +24,8 @@ pub record Within (bs : List ℕ) (y : Fields) (i : Instance) : Type 0 where
   pub small : (found y bs).operator ≤ 15
 
 within_by : (p : ℕ) (bs : List ℕ) (y : Fields) (i : Instance) (a b : Bool) → ltb (length bs) (size_of y) ≡ a → ltb 15 (found y bs).operator ≡ b → cond a (Err (PastEnd p)) (cond b (Err (Operator p)) (Ok (found y bs))) ≡ Ok i → Within bs y i
-within_by p bs y i true b s t e = absurd (err_ok (PastEnd p) i e)
-within_by p bs y i false true s t e = absurd (err_ok (Operator p) i e)
+within_by p bs y i true b s t e = cc
+within_by p bs y i false true s t e = cc
 within_by p bs y i false false s t e = record { fits = ltb-false (length bs) (size_of y) s; is = cc; small = ltb-false 15 (found y bs).operator t }
 
 within : (p : ℕ) (bs : List ℕ) (y : Fields) (i : Instance) → record_at p bs y ≡ Ok i → Within bs y i
@@ -91,7 +90,7 @@ piece_is j i n x e h =
 
 -- the record that is read is spelled by the bytes that it takes
 pub read_spelled : (p : ℕ) (bs : List ℕ) (x : Piece) → read_at p bs ≡ Ok (Some x) → Spells (take x.size bs) x.meaning × (x.size ≤ length bs)
-read_spelled p [] x e = absurd (ok_none_some x e)
+read_spelled p [] x e = cc
 read_spelled p (b ∷ bs) x e =
     let (y, tells, more) = then_ok (layout_at p b) _ (Some x) e in
     let (i, at, made) = then_ok (record_at p (b ∷ bs) y) _ (Some x) more in
@@ -107,4 +106,4 @@ none_left p [] e = refl
 none_left p (b ∷ bs) e =
     let (y, tells, more) = then_ok (layout_at p b) _ None e in
     let (i, at, made) = then_ok (record_at p (b ∷ bs) y) _ None more in
-    absurd (ok_none_some _ (sym made))
+    cc

@@ -2,7 +2,6 @@
 use Rattle.std.proofs.Common.{◌≡◌, ℕ, ◌+◌, ◌-◌, List, ◌++◌, length, take, drop, Some, None, Ok, Err, Option, Result, sym, refl, ap, ◌∙◌, subst, arith}
 use Rattle.std.proofs.lemmas.List.{take-append-drop, take_rest, drop-drop}
 use Rattle.records.specs.Instance.{Instance}
-use Rattle.trace.proofs.Apart.{err_ok}
 use Rattle.trace.proofs.Exact.{spelled_read}
 use Rattle.trace.proofs.Places.{fault_place}
 use Rattle.trace.proofs.Sound.{none_left, read_spelled}
@@ -26,7 +25,7 @@ step_by c (Ok (Some x)) e = (
 )
 step_by c (Err f) e = (
   fault_place c.place (left c) f e,
-  (λ s t i q h. err_ok f (Some _) (sym e ∙ (ap (read_at c.place) q ∙ spelled_read s t i h c.place))),
+  (λ s t i q h. let z = spelled_read s t i h c.place in cc),
   refl,
 )
 

@@ -90,8 +90,7 @@ fn read_cell(bytes: &[u8], place: usize) -> u16
 
 /// The cells from `place` on.
 fn read_cells(bytes: &[u8], place: usize, count: usize) -> [u16; MOST_READS]
-    requires inside { place + 2 * count ≤ length bytes.now }
-    requires few { count ≤ 5 }
+    requires { (place + 2 * count ≤ length bytes.now) × (count ≤ 5) }
     ensures { take count result ≡ cells_in count (drop place bytes.now) }
 {
     let mut cells = [0; MOST_READS];
