@@ -5,7 +5,8 @@ usage: python3 tools/spelling.py [FOLDER]      at the top of a checkout that /op
 
 A fact or a type goes to upper camel case (Spell-all becomes SpellAll), every other name to snake case (read-slots becomes
 read_slots). Names of src/, names that Rattle makes (goals, steps, loops) and names of the library stay. It renames in specs/,
-in proofs/ and in the clauses of src/, and stops before it writes anything where two names would fall together.
+in proofs/ and in src/, where only clauses have such names, and leaves comments as they are. It stops before it writes
+anything where two names would fall together.
 """
 import collections
 import os
@@ -66,6 +67,9 @@ def main(top):
     for text in antt.values():
         own.update(bound(text, own | others))
     turned = {n: spelled(n) for n in own if "-" in n and n not in others}
+    if not turned:
+        print("no names are left to turn")
+        return
     goals = collections.Counter(turned.values())
     clash = [n for n, t in turned.items() if goals[t] > 1 or t in own or t in others]
     if clash:

@@ -92,11 +92,11 @@ module _ {V : Type 0} (f : Arithmetic V) (s : List V) (l r : List Instance) (pla
 
   -- one record more
   cell_more : (n : ℕ) → n < length r → ((c p : ℕ) → p ≤ length l → UpTo l place n c p → SameCell n c p) → (c p : ℕ) → p ≤ length l → UpTo l place (suc n) c p → SameCell (suc n) c p
-  cell_more n b before c p inside up_to_lem =
+  cell_more n b before c p inside up_to =
       let (i, e) = nth_there r n b in
       let shown : slice_get l (place n) ≡ Some i = h.shown n b ∙ e in
       elim (cases_eq i.written c) [
-        | inl same ↦ rw (← same) (written i e shown (rw (← same) at up_to_lem))
+        | inl same ↦ rw (← same) (written i e shown (rw (← same) at up_to))
         | inr other ↦
             ap (λ t. slice_get t c) (leaves_next f r s n i e)
             ∙ (done_other f i (leaves f (take n r) s) c other ∙ before c p inside (without i shown other))
@@ -106,7 +106,7 @@ module _ {V : Type 0} (f : Arithmetic V) (s : List V) (l r : List Instance) (pla
       without i shown other q w =
           let apart : place n ≡ q → ⊥ = λ z. omega (arith, writes_none l (place n) i shown c other, ap (writes_of l c) z) in
           let same = times_other place q n apart in
-          (λ x. omega (arith, (up_to_lem q w).0 x), λ x. (up_to_lem q w).1 (omega arith))
+          (λ x. omega (arith, (up_to q w).0 x), λ x. (up_to q w).1 (omega arith))
 
       -- between the record's place and p nothing writes its cell
       past : (i : Instance) → slice_get l (place n) ≡ Some i → UpTo l place (suc n) i.written p → (q : ℕ) → suc (place n) ≤ q → q < p → writes_of l i.written q ≡ 0

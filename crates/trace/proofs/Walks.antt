@@ -114,17 +114,17 @@ pub ends_as : (bs : List ℕ) (w : Walk) → whole bs ≡ w → Ends bs w.taken 
 ends_as bs w e = subst (λ (x : Walk). Ends bs x.taken x.stop) e (finds_all bs).ends
 
 -- what a reader finds, by its next step
-abbrev pub Goes_on : Cursor → Result (Option Instance) ReadFault → Cursor → Type 0
-Goes_on c (Ok (Some i)) d = (rest_of c ≡ ahead (i ∷ []) (rest_of d)) × (length c.bytes - d.place < length c.bytes - c.place)
-Goes_on c (Ok None) d = rest_of c ≡ record { taken = []; stop = None }
-Goes_on c (Err f) d = rest_of c ≡ record { taken = []; stop = Some f }
+abbrev pub GoesOn : Cursor → Result (Option Instance) ReadFault → Cursor → Type 0
+GoesOn c (Ok (Some i)) d = (rest_of c ≡ ahead (i ∷ []) (rest_of d)) × (length c.bytes - d.place < length c.bytes - c.place)
+GoesOn c (Ok None) d = rest_of c ≡ record { taken = []; stop = None }
+GoesOn c (Err f) d = rest_of c ≡ record { taken = []; stop = Some f }
 
 rest_step : (c : Cursor) (r : Result (Option Piece) ReadFault) → read_at c.place (left c) ≡ r → rest_of c ≡ from_step r (walk (length (left c)) (c.place + size_read r) (drop (size_read r) (left c)))
 rest_step c r e =
     walk_bound (length (left c)) (suc (length (left c))) c.place (left c) (omega arith) (omega arith)
     ∙ walk_step (length (left c)) c.place (left c) r e
 
-goes_by : (c : Cursor) (r : Result (Option Piece) ReadFault) → read_at c.place (left c) ≡ r → Goes_on c (answer r) (stepped c r)
+goes_by : (c : Cursor) (r : Result (Option Piece) ReadFault) → read_at c.place (left c) ≡ r → GoesOn c (answer r) (stepped c r)
 goes_by c (Ok None) e = rest_step c (Ok None) e
 goes_by c (Err f) e = rest_step c (Err f) e
 goes_by c (Ok (Some x)) e =
@@ -135,11 +135,11 @@ goes_by c (Ok (Some x)) e =
     let at = ap (λ (l : List ℕ). walk (length l) (c.place + x.size) l) (sym (beyond c x.size)) in
     (rest_step c (Ok (Some x)) e ∙ ap (from_step (Ok (Some x))) (same ∙ at), omega arith)
 
-pub goes_on : (c : Cursor) → Goes_on c (next c) (after c)
+pub goes_on : (c : Cursor) → GoesOn c (next c) (after c)
 goes_on c = goes_by c (read_at c.place (left c)) refl
 
 -- the same of what a step answered and left
-pub stepped_on : (c d : Cursor) (r : Result (Option Instance) ReadFault) → r ≡ next c → d ≡ after c → Goes_on c r d
+pub stepped_on : (c d : Cursor) (r : Result (Option Instance) ReadFault) → r ≡ next c → d ≡ after c → GoesOn c r d
 stepped_on c d r p q = rw (p, q) (goes_on c)
 
 pub ahead_more : (is : List Instance) (i : Instance) (w v : Walk) → w ≡ ahead (i ∷ []) v → ahead is w ≡ ahead (is ++ i ∷ []) v

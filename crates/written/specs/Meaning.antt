@@ -1,5 +1,5 @@
 -- The written list, and that it is sound.
-use Rattle.std.specs.Prelude.{◌≡◌, ℕ, suc, ◌<◌, Bool, true, false, cond, ◌&&◌, ltb, List, [], ◌∷◌, map, is_some, Some, None, Ok, Err, Option, nat_lt, refl}
+use Rattle.std.specs.Prelude.{◌≡◌, ℕ, suc, ◌<◌, Bool, true, false, cond, ◌&&◌, List, [], ◌∷◌, map, is_some, Some, None, Ok, Err, Option, nat_lt, refl}
 use Rattle.std.proofs.Common.{arith, length-take}
 use Rattle.std.proofs.lemmas.List.{length-map}
 use Rattle.std.proofs.lemmas.Bool.{and_parts, false≢true, ltb-false, ltb-true, true≢false}
@@ -24,8 +24,8 @@ below_all C (c ∷ cs) e = let (a, b) = and_parts (nat_lt c C) (all_below C cs) 
 
 -- what a row that fits passed
 pub record Passed (C : ℕ) (r : Row) : Type 0 where
-  pub small : ltb 15 r.operator ≡ false
-  pub few : ltb 5 r.count ≡ false
+  pub small : nat_lt 15 r.operator ≡ false
+  pub few : nat_lt 5 r.count ≡ false
   pub cells : (nat_lt r.written C && all_below C (row_instance r).reads) ≡ true
 
 passed_by : (C : ℕ) (i : Instance) (a b : Bool) → judged_fits C (cond a (Err Operator) (cond b (Err Reads) (Ok i))) ≡ true → (a ≡ false) × (b ≡ false) × ((nat_lt i.written C && all_below C i.reads) ≡ true)

@@ -3,7 +3,7 @@ ghost use Rattle.std.specs.Prelude.{◌≡◌, Decides};
 ghost use Rattle.std.specs.Cmp.Rules.{comparing};
 ghost use Rattle.std.specs.Ordering.{on};
 ghost use Rattle.std.proofs.Common.{rules};
-ghost use Rattle.records.specs.Equality.{same_instance};
+ghost use Rattle.records.specs.Equality.{SameExact, same_instance};
 ghost use Rattle.records.specs.Meaning.{instance};
 
 use crate::record::Record;
@@ -16,6 +16,7 @@ impl PartialEq for Record {
     fn eq(&self, other: &Record) -> bool
         ensures gives { result ≡ same_instance (instance self.now) (instance other.now) }
         ensures equal { Decides result (instance self.now ≡ instance other.now) }
+        ensures exact { SameExact }
     {
         if self.operator() != other.operator() {
             return false;

@@ -1,5 +1,5 @@
 use Rattle.std.proofs.Common.{map, sym, ◌∙◌, arith}
-use lib.ListN.{length-map}
+use Rattle.std.proofs.lemmas.List.{length-map}
 use Rattle.records.specs.Meaning.{row_instance}
 use Rattle.written.proofs.Rows.{blank, earlier_no, earlier_yes}
 use Rattle.sources.proofs.Writers.{earlier_none, earlier_past}

@@ -1,5 +1,5 @@
 use Rattle.std.proofs.Common.{sym}
-use lib.ListN.{length-map}
+use Rattle.std.proofs.lemmas.List.{length-map}
 use Rattle.records.specs.Meaning.{row_instance}
 use Rattle.written.proofs.list.questions.WrittenListSource.length.Goals as goal
 

@@ -1,5 +1,5 @@
 use Rattle.std.proofs.Common.{◌≡◌, ◌+◌, ◌*◌, ◌≤◌, length, sym, refl, ap, ◌∙◌, arith}
-use lib.ListN.{length-map}
+use Rattle.std.proofs.lemmas.List.{length-map}
 use Rattle.records.specs.Meaning.{row_instance}
 use Rattle.sources.proofs.Readers.{version_slots}
 use Rattle.written.proofs.Rows.{blank, earlier_no, earlier_yes, readers_no, readers_yes}

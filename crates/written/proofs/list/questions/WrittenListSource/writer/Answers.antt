@@ -1,5 +1,5 @@
 use Rattle.std.proofs.Common.{get_or, sym, ◌∙◌, arith}
-use lib.ListN.{length-map}
+use Rattle.std.proofs.lemmas.List.{length-map}
 use Rattle.std.proofs.lemmas.Bool.{eq-eqb}
 use Rattle.records.specs.Meaning.{row_instance}
 use Rattle.written.proofs.Rows.{blank, earlier_no, earlier_yes, row_writes}
