@@ -1,11 +1,9 @@
-//! The theorems, each beside a worked example. A function answers the example; its clause `theorem` is over every list.
-ghost use Rattle.std.specs.Prelude.{◌≡◌, ℕ, ◌≢◌, [], ◌∷◌, map};
+//! A worked example, and laws of faithful orders over every list.
+ghost use Rattle.std.specs.Prelude.{◌≡◌, [], ◌∷◌, map};
 ghost use Rattle.records.specs.Doing.{leaves};
 ghost use Rattle.records.specs.Meaning.{row_instance};
 ghost use Rattle.orders.specs.Example.{copy, first_read, small, start};
-ghost use Rattle.orders.specs.Faithful.{Begins, Faithful};
-ghost use Rattle.orders.specs.Taking.{TallyFull, VersionsAgree, tally};
-ghost use Rattle.orders.specs.Theorems.{EqualStores, NextExact, OrdersCompose, OrdersTurn, OwnOrder, ShadowMoves, TakenExact, WholeExact};
+ghost use Rattle.orders.specs.Theorems.{OrdersCompose, OrdersTurn, OwnOrder};
 
 use records::Row;
 
@@ -22,7 +20,7 @@ fn copy_row(to: u16, from: u16) -> Row
     }
 }
 
-/// The instances of the example: two read cell 0, then one writes it.
+/// The instances of the example: two read cell 0, then one writes it. The clauses `own`, `compose` and `turn` are over every list.
 pub fn instances() -> [Row; 3]
     ensures rows { map row_instance result ≡ small }
     ensures store { leaves first_read (map row_instance result) start ≡ 8 ∷ 5 ∷ 5 ∷ 8 ∷ [] }
