@@ -1,5 +1,5 @@
 -- Instances by their parts.
-use Rattle.std.proofs.Common.{◌≡◌, Bool, Decides, ap, arith}
+use Rattle.std.proofs.Common.{◌≡◌, arith}
 use Rattle.std.proofs.lemmas.List.{length-take}
 use Rattle.records.specs.Instance.{Instance, Recordable}
 use Rattle.records.specs.Meaning.{instance}
@@ -7,10 +7,6 @@ use Rattle.records.specs.declared.record.Record.{Record}
 
 pub same_parts : (x y : Instance) → x.operator ≡ y.operator → x.written ≡ y.written → x.reads ≡ y.reads → x ≡ y
 same_parts x y p q r = λ i. record { operator = p i; written = q i; reads = r i }
-
--- where the other parts agree, the reads decide
-pub decided_by_reads : (x y : Instance) (r : Bool) → x.operator ≡ y.operator → x.written ≡ y.written → Decides r (x.reads ≡ y.reads) → Decides r (x ≡ y)
-decided_by_reads x y r p q d = (λ t. same_parts x y p q (d.0 t), λ e. d.1 (ap (λ (i : Instance). i.reads) e))
 
 -- what a record means can be recorded
 pub recordable : (r : Record) → Recordable (instance r)

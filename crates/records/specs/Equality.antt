@@ -1,5 +1,5 @@
 -- Equality of instances as a test.
-use Rattle.std.specs.Prelude.{◌≡◌, Bool, Decides, ◌==◌}
+use Rattle.std.specs.Prelude.{◌≡◌, ◌↔◌, Bool, IsTrue, ◌==◌}
 use Rattle.std.specs.Cmp.Lexicographic.{pointwise}
 use Rattle.std.specs.Ordering.{eq_of_both, on}
 use Rattle.records.specs.Instance.{Instance}
@@ -10,4 +10,4 @@ same_instance = eq_of_both (on (λ i. i.operator) ◌==◌) (eq_of_both (on (λ 
 
 -- the test is true exactly of instances that are equal
 abbrev pub SameExact : Type 0
-SameExact = (i j : Instance) → Decides (same_instance i j) (i ≡ j)
+SameExact = (i j : Instance) → IsTrue (same_instance i j) ↔ (i ≡ j)

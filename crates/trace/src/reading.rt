@@ -1,6 +1,7 @@
 //! Reading the record at the front of some bytes.
 ghost use Rattle.std.specs.Prelude.{◌≡◌, ◌+◌, ◌*◌, ◌<◌, ◌≤◌, length, take, drop};
-ghost use Rattle.records.specs.Making.{meant};
+ghost use Rattle.records.specs.Making.{result_map};
+ghost use Rattle.records.specs.Meaning.{instance};
 ghost use Rattle.trace.specs.Layouts.{fields, size_of};
 ghost use Rattle.trace.specs.Reading.{laid_out, layout_at, cell_at, cells_in, record_at, read_at, pieces};
 
@@ -57,7 +58,7 @@ impl Layout {
 
     /// The record of this layout at the front of `bytes`, which lie at `place` in the trace.
     pub(crate) fn record(&self, bytes: &[u8], place: usize) -> Result<Record, ReadFault>
-        ensures { meant result ≡ record_at place bytes.now (fields self.now) }
+        ensures { result_map instance result ≡ record_at place bytes.now (fields self.now) }
     {
         if bytes.len() < self.size() {
             return Err(ReadFault::PastEnd { place });
@@ -73,7 +74,7 @@ impl Layout {
             count: self.reads as u8,
             reads,
         };
-        match Record::from_row(row) {
+        match Record::try_from(row) {
             Ok(record) => Ok(record),
             Err(_) => Err(ReadFault::Operator { place }),
         }

@@ -174,16 +174,16 @@ fn rows(rt: HostRuntime) -> Result<(), Fail> {
         count: 1,
         reads: [9, 7, 7, 7, 7],
     };
-    assert_eq!(rt; Record::from_row(row)?, record);
+    assert_eq!(rt; Record::try_from(row)?, record);
     let other = Row {
         operator: 3,
         written: 1,
         count: 2,
         reads: [9, 7, 7, 7, 7],
     };
-    assert_ne!(rt; Record::from_row(other)?, record);
+    assert_ne!(rt; Record::try_from(other)?, record);
     for (operator, number) in [(16, 45), (15, 46)] {
-        let Err(fault) = Record::from_row(Row {
+        let Err(fault) = Record::try_from(Row {
             operator,
             written: 0,
             count: 6,

@@ -8,7 +8,7 @@ use Rattle.std.specs.Option.{option_map}
 use Rattle.std.specs.Result.{result_ok}
 use Rattle.std.specs.List.{slice_get}
 use Rattle.records.specs.Instance.{Instance}
-use Rattle.records.specs.Making.{judged_row, meant}
+use Rattle.records.specs.Making.{judged_row, result_map}
 use Rattle.records.specs.Meaning.{instance, row_instance}
 use Rattle.records.specs.declared.fault.RecordFault.{RecordFault}
 use Rattle.records.specs.declared.fault.RecordFault.TheVariants.{Operator, Reads}
@@ -132,7 +132,7 @@ pub misfit_below : (C : ℕ) (rows : List Row) (p : ℕ) → first_misfit C rows
 misfit_below C [] p e = let z : ◌≡◌ {A = ℕ} 0 1 = cc in absurd (omega arith)
 misfit_below C (r ∷ rs) p e = misfit_step (row_fits C r) (first_misfit C rs) (length rs) p (misfit_below C rs) e
 
-pub ok_meant : (r : Result Record RecordFault) (i : Instance) → meant r ≡ Ok i → option_map instance (result_ok r) ≡ Some i
+pub ok_meant : (r : Result Record RecordFault) (i : Instance) → result_map instance r ≡ Ok i → option_map instance (result_ok r) ≡ Some i
 ok_meant (Ok x) i e = cc
 ok_meant (Err f) i e = let z : ◌≡◌ {A = ℕ} 0 1 = cc in absurd (omega arith)
 

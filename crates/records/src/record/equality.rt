@@ -1,5 +1,5 @@
 //! Records are equal exactly when they mean the same instance.
-ghost use Rattle.std.specs.Prelude.{◌≡◌, Decides};
+ghost use Rattle.std.specs.Prelude.{◌≡◌, ◌↔◌, IsTrue};
 ghost use Rattle.std.specs.Cmp.Rules.{comparing};
 ghost use Rattle.std.specs.Ordering.{on};
 ghost use Rattle.std.proofs.Common.{rules};
@@ -15,15 +15,15 @@ impl PartialEq for Record {
 
     fn eq(&self, other: &Record) -> bool
         ensures gives { result ≡ same_instance (instance self.now) (instance other.now) }
-        ensures equal { Decides result (instance self.now ≡ instance other.now) }
+        ensures equal { IsTrue result ↔ (instance self.now ≡ instance other.now) }
         ensures exact { SameExact }
     {
-        if self.operator() != other.operator() {
-            return false;
-        }
-        if self.written() != other.written() {
-            return false;
-        }
-        self.reads() == other.reads()
+        self.operator() == other.operator()
+            && self.written() == other.written()
+            && self.reads() == other.reads()
     }
+}
+
+impl Eq for Record {
+    ghost laws = { Prim.search (comparing, rules) };
 }

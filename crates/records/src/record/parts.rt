@@ -23,7 +23,6 @@ impl Record {
     pub fn reads(&self) -> &[u16]
         ensures { result.now ≡ (instance self.now).reads }
     {
-        let count = self.row.count as usize;
-        &self.row.reads[0..count]
+        &self.row.reads[0..usize::from(self.row.count)]
     }
 }

@@ -26,7 +26,7 @@ impl Source for WrittenList<'_> {
 
     fn record_at(&self, position: u32) -> Option<Record> {
         let row = self.rows.get(position as usize)?;
-        Record::from_row(*row).ok()
+        Record::try_from(*row).ok()
     }
 
     fn writer(&self, cell: u16, count: u32) -> Option<u32> {

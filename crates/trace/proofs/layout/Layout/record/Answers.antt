@@ -16,7 +16,7 @@ returns-in-Ok c =
     let first : c.from-first.result ≡ bit y.operator = search rules in
     let second : c.from.result ≡ bit y.written = search rules in
     record_is c.args.place bs y (instance c.in-Ok.record) (omega arith)
-    (made_from y.reads made (instance c.in-Ok.record) c.in-Ok.ensures
+    (made_from made.operator y.reads made (instance c.in-Ok.record) c.in-Ok.ensures
     ∙ found_is bs y made c.args.self.now.some operator
     (c.read_cell-written.ensures ∙ ap (λ (n : ℕ). cell_at bs (1 + n)) first)
     (c.read_cells-reads.ensures ∙ (λ i. cells_in y.reads (drop (1 + first i + 2 * second i) bs))))

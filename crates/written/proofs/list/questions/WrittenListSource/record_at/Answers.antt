@@ -18,5 +18,5 @@ returns c =
     let found = sym (item_nth rows c.args.position c.get.result c.get.ensures.lookup) ∙ ap (option_map (λ x. x.now)) c.in_ok-row.was in
     let fits = all_rows_fit c.args.self.now.cells rows c.args.position row c.args.self.now.fit found in
     ap (option_map instance) c.ok.ensures.value
-    ∙ (ok_meant c.from_row.result (row_instance row) (c.from_row.ensures ∙ fits_judged c.args.self.now.cells row fits)
+    ∙ (ok_meant c.try_from.result (row_instance row) (c.try_from.ensures ∙ fits_judged c.args.self.now.cells row fits)
     ∙ sym (nth_map row_instance rows c.args.position ∙ ap (option_map row_instance) found))
