@@ -1,11 +1,11 @@
 -- The cells that the instances of a list write and read, as numbers.
 use Rattle.std.proofs.Common.{◌≡◌, ℕ, ◌+◌, ◌<◌, ◌≤◌, Bool, false, cond, eqb, ◌⊎◌, List, [], ◌∷◌, length, Some, count_by, Option, unwrap_or, sym, refl, ap, ◌∙◌, inl, inr, arith}
-use Rattle.std.proofs.ByRecursion.{all-has, all_has_itself}
 use Rattle.std.proofs.lemmas.Option.{slice_get_past}
+use Rattle.std.proofs.lemmas.List.Elements.{All-cons, All-contains, All-contains_itself, All-head, All-nil, All-tail}
 use Rattle.std.proofs.lemmas.List.Sums.{sum_by-cons}
 use Rattle.std.proofs.lemmas.Bool.{cases_eq, cases_lt, eq-eqb, ne_eqb}
 use Rattle.std.specs.Option.{option_map}
-use Rattle.std.specs.List.{ContainsAt, AllByRecursion, slice_get}
+use Rattle.std.specs.List.{Contains, All, slice_get}
 use Rattle.records.specs.Instance.{Instance}
 use Rattle.sources.specs.Numbers.{total}
 use Rattle.sources.specs.Questions.{earlier, readers, slots_at, slots_of, writes_at}
@@ -95,26 +95,27 @@ pub count_behind : (c x : ℕ) (cs : List ℕ) → (x ≡ c → ⊥) → count c
 count_behind c x cs ne = omega (arith, count_cons c x cs, ap {B = ℕ} (λ (t : Bool). cond t 1 0) (ne_eqb x c ne))
 
 -- what holds of all elements holds of each that is counted, and the other way round
-pub all_counted : (P : ℕ → Type 0) (cs : List ℕ) → AllByRecursion P cs → (c : ℕ) → 1 ≤ count c cs → P c
+pub all_counted : (P : ℕ → Type 0) (cs : List ℕ) → All P cs → (c : ℕ) → 1 ≤ count c cs → P c
 all_counted P [] h c n = absurd (omega (arith, nothing))
   where
     nothing : count c [] ≡ 0
     nothing = unfold count in refl
 all_counted P (x ∷ cs) h c n =
     elim (cases_eq x c) [
-      | inl e ↦ rw e at h.0
-      | inr ne ↦ all_counted P cs h.1 c (omega (arith, count_behind c x cs ne))
+      | inl e ↦ rw e at (All-head P x cs h)
+      | inr ne ↦ all_counted P cs (All-tail P x cs h) c (omega (arith, count_behind c x cs ne))
     ]
 
-pub counted_all : (P : ℕ → Type 0) (cs : List ℕ) → ((c : ℕ) → 1 ≤ count c cs → P c) → AllByRecursion P cs
-counted_all P [] h = tt
-counted_all P (x ∷ cs) h = (h x (count_front x x cs refl), counted_all P cs (λ c n. h c (omega (arith, count_cons c x cs))))
+pub counted_all : (P : ℕ → Type 0) (cs : List ℕ) → ((c : ℕ) → 1 ≤ count c cs → P c) → All P cs
+counted_all P [] h = All-nil P
+counted_all P (x ∷ cs) h =
+    All-cons P x cs (h x (count_front x x cs refl)) (counted_all P cs (λ c n. h c (omega (arith, count_cons c x cs))))
 
-pub counted_has : (c : ℕ) (cs : List ℕ) → 1 ≤ count c cs → ContainsAt cs c
-counted_has c cs n = all_counted (ContainsAt cs) cs (all_has_itself cs) c n
+pub counted_has : (c : ℕ) (cs : List ℕ) → 1 ≤ count c cs → Contains cs c
+counted_has c cs n = all_counted (Contains cs) cs (All-contains_itself cs) c n
 
-pub has_counted : (c : ℕ) (cs : List ℕ) → ContainsAt cs c → 1 ≤ count c cs
-has_counted c cs h = all-has (λ x. 1 ≤ count x cs) cs c (counted_all (λ x. 1 ≤ count x cs) cs (λ x n. n)) h
+pub has_counted : (c : ℕ) (cs : List ℕ) → Contains cs c → 1 ≤ count c cs
+has_counted c cs h = All-contains (λ x. 1 ≤ count x cs) cs c (counted_all (λ x. 1 ≤ count x cs) cs (λ x n. n)) h
 
 -- an instance touches the cells that it writes or reads
 pub touches : (l : List Instance) (c p : ℕ) (i : Instance) → slice_get l p ≡ Some i → count c (touched i) ≡ writes_of l c p + reads_of l c p

@@ -2,7 +2,7 @@
 use Rattle.std.proofs.Common.{◌≡◌, ℕ, zero, suc, ◌+◌, ◌<◌, ◌≤◌, eqb, ◌≢◌, ◌⊎◌, List, [], ◌∷◌, ◌++◌, length, Some, sym, refl, ap, ◌∙◌, subst₂, inl, inr, arith, length-append}
 use Rattle.std.proofs.lemmas.List.{append_assoc}
 use Rattle.std.proofs.lemmas.Bool.{cases_eq, cond-false, cond-true, eq-eqb, ne_eqb}
-use Rattle.std.specs.List.{ContainsAt, slice_get}
+use Rattle.std.specs.List.{Contains, slice_get}
 use Rattle.records.specs.Instance.{Instance}
 use Rattle.sources.proofs.Items.{nth_below, nth_there}
 use Rattle.sources.proofs.Joined.{nth_right}
@@ -89,7 +89,7 @@ pub exchange_keeps : (x y : Instance) → ExchangeKeeps x y
 exchange_keeps x y free l a b f = orders_compose l (a ++ x ∷ y ∷ b) (a ++ y ∷ x ∷ b) f (swap (length a), exchanged x y free a b)
 
 -- y is taken both before and after x, which writes a cell that y touches
-clash : (l a : List Instance) (x y : Instance) → MayTake l a x → MayTake l a y → MayTake l (a ++ x ∷ []) y → x ≢ y → ContainsAt (touched y) x.written → ⊥
+clash : (l a : List Instance) (x y : Instance) → MayTake l a x → MayTake l a y → MayTake l (a ++ x ∷ []) y → x ≢ y → Contains (touched y) x.written → ⊥
 clash l a x y ((p, mx), _) ((q, my), _) ((n, late), _) differ h =
     elim (cases_eq y.written x.written) [
       | inl same ↦

@@ -2,7 +2,7 @@
 use Rattle.std.proofs.Common.{◌≡◌, ℕ, ◌+◌, ◌<◌, ◌≤◌, cond, eqb, ◌⊎◌, List, [], ◌∷◌, ◌++◌, length, Some, sym, ap, ◌∙◌, inl, inr, arith, length-append}
 use Rattle.std.proofs.lemmas.Bool.{cases_eq, cond-false, cond-true, eq-eqb, ne_eqb}
 use Rattle.std.specs.Option.{option_map}
-use Rattle.std.specs.List.{AllByRecursion, slice_get}
+use Rattle.std.specs.List.{All, slice_get}
 use Rattle.records.specs.Instance.{Instance}
 use Rattle.sources.proofs.Items.{nth_below}
 use Rattle.sources.proofs.Joined.{nth_left, nth_right}
@@ -74,7 +74,7 @@ module _ (l r : List Instance) (place : ℕ → ℕ) (h : Placed l r place) wher
       named : writer i.written (version i.written r) l ≡ Some p
       named = (writer_exact l i.written (version i.written r) p).1 (ap (option_map (λ (j : Instance). j.written)) e, sym own)
 
-      current : AllByRecursion (λ c. version c r ≡ earlier c p l) i.reads
+      current : All (λ c. version c r ≡ earlier c p l) i.reads
       current =
           counted_all (λ c. version c r ≡ earlier c p l) i.reads
           (λ c some. seen c (ready_reads (length l) (writes_of l) (reads_of l) place (length r) h.begun p i.written (writes_own l p i e) ready c (omega (arith, reads_is l c p i e, slots_count c i))))

@@ -3,7 +3,8 @@ use Rattle.std.proofs.Common.{◌≡◌, ℕ, zero, suc, ◌+◌, ◌<◌, ◌�
 use Rattle.std.proofs.lemmas.List.{take_all}
 use Rattle.std.proofs.lemmas.Bool.{cases_eq}
 use Rattle.std.specs.Option.{option_map}
-use Rattle.std.specs.List.{AllByRecursion, slice_get}
+use Rattle.std.proofs.lemmas.List.Elements.{All-head, All-tail}
+use Rattle.std.specs.List.{All, slice_get}
 use Rattle.records.specs.Doing.{Arithmetic, done, in_front, leaves, values}
 use Rattle.records.specs.Instance.{Instance}
 use Rattle.sources.proofs.Items.{nth_there}
@@ -37,17 +38,17 @@ same_nth (x ∷ s) (y ∷ t) h =
     let front : x ≡ y = cc in
     ap (λ v. v ∷ s) front ∙ ap (λ u. y ∷ u) (same_nth s t (λ c. h (suc c)))
 
-values_same : {V : Type 0} (s t : List V) (cs : List ℕ) → AllByRecursion (λ c. slice_get s c ≡ slice_get t c) cs → values s cs ≡ values t cs
+values_same : {V : Type 0} (s t : List V) (cs : List ℕ) → All (λ c. slice_get s c ≡ slice_get t c) cs → values s cs ≡ values t cs
 unfolding values
 values_same s t [] h = refl
-values_same s t (c ∷ cs) h = ap (λ o. in_front o (values s cs)) h.0 ∙ ap (in_front (slice_get t c)) (values_same s t cs h.1)
+values_same s t (c ∷ cs) h = ap (λ o. in_front o (values s cs)) (All-head (λ d. slice_get s d ≡ slice_get t d) c cs h) ∙ ap (in_front (slice_get t c)) (values_same s t cs (All-tail (λ d. slice_get s d ≡ slice_get t d) c cs h))
 
 done_other : {V : Type 0} (f : Arithmetic V) (i : Instance) (s : List V) (c : ℕ) → (i.written ≡ c → ⊥) → slice_get (done f i s) c ≡ slice_get s c
 unfolding done
 done_other f i s c ne = nth_set_other s i.written c (f i.operator (values s i.reads)) ne
 
 -- stores that agree at the cells of an instance agree at the one that it writes
-done_same : {V : Type 0} (f : Arithmetic V) (i : Instance) (s t : List V) → AllByRecursion (λ c. slice_get s c ≡ slice_get t c) i.reads → slice_get s i.written ≡ slice_get t i.written → slice_get (done f i s) i.written ≡ slice_get (done f i t) i.written
+done_same : {V : Type 0} (f : Arithmetic V) (i : Instance) (s t : List V) → All (λ c. slice_get s c ≡ slice_get t c) i.reads → slice_get s i.written ≡ slice_get t i.written → slice_get (done f i s) i.written ≡ slice_get (done f i t) i.written
 unfolding done
 done_same {V} f i s t reads own =
     nth_set_same s i.written (f i.operator (values s i.reads))
@@ -125,7 +126,7 @@ module _ {V : Type 0} (f : Arithmetic V) (s : List V) (l r : List Instance) (pla
           let ready = h.begun n b in
           let first : place n < p = (up (place n) (omega arith)).1 (omega (arith, times_taken place (place n) n refl)) in
           let stays = leaves_skip f l s d (suc (place n)) p first inside (λ q x y. past i shown up q x y) in
-          let reads : AllByRecursion (λ x. SameCell n x (place n)) i.reads = counted_all (λ x. SameCell n x (place n)) i.reads (λ x some. before x (place n) (omega arith) (ready_up_to n (place n) x (omega arith) ready (omega (arith, reads_is l x (place n) i shown, slots_count x i)))) in
+          let reads : All (λ x. SameCell n x (place n)) i.reads = counted_all (λ x. SameCell n x (place n)) i.reads (λ x some. before x (place n) (omega arith) (ready_up_to n (place n) x (omega arith) ready (omega (arith, reads_is l x (place n) i shown, slots_count x i)))) in
           ap (λ t. slice_get t d) (leaves_next f r s n i e)
           ∙ (done_same f i (leaves f (take n r) s) (leaves f (take (place n) l) s) reads (before d (place n) (omega arith) (ready_up_to n (place n) d (omega arith) ready (omega arith)))
           ∙ (sym (ap (λ t. slice_get t d) (leaves_next f l s (place n) i shown)) ∙ sym stays))

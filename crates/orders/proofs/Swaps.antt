@@ -1,10 +1,9 @@
 -- Deciding whether records conflict, and exchanging two of a slice.
-use Rattle.std.proofs.Common.{◌≡◌, ℕ, zero, suc, ◌+◌, ◌<◌, Bool, true, false, ◌⊎◌, List, [], ◌∷◌, ◌++◌, map, length, get_or, set, Some, Decides, sym, refl, ap, ◌∙◌, subst₂, inl, inr, add-one, arith}
+use Rattle.std.proofs.Common.{◌≡◌, ℕ, zero, suc, ◌+◌, ◌<◌, Bool, List, [], ◌∷◌, ◌++◌, map, length, get_or, set, Some, Decides, sym, refl, ap, ◌∙◌, subst₂, add-one, arith}
 use Rattle.std.proofs.lemmas.List.{get_or_default, map-append}
 use Rattle.std.proofs.lemmas.Option.{slice_get_read}
-use Rattle.std.proofs.lemmas.Bool.{both_ways}
 use Rattle.std.specs.Option.{option_map}
-use Rattle.std.specs.List.{ContainsAt, slice_get}
+use Rattle.std.specs.List.{Contains, slice_get}
 use Rattle.records.specs.Instance.{Instance}
 use Rattle.sources.proofs.Items.{nth_map}
 use Rattle.orders.proofs.Cells.{count_behind, counted_has, has_counted}
@@ -12,24 +11,12 @@ use Rattle.orders.proofs.Exchanges.{exchange_keeps}
 use Rattle.orders.specs.Faithful.{Conflict, Faithful}
 use Rattle.orders.specs.Neighbours.{FreeAt}
 
--- a list has y where it stands in front
-pub has_front : (x y : ℕ) (xs : List ℕ) → x ≡ y → ContainsAt (x ∷ xs) y
-has_front x y xs e = (0, omega arith, λ d. e)
-
--- and otherwise where it is behind
-pub decides_behind : (x y : ℕ) (xs : List ℕ) (r : Bool) → (x ≡ y → ⊥) → Decides r (ContainsAt xs y) → Decides r (ContainsAt (x ∷ xs) y)
+-- where y does not stand in front, the rest decides whether a list has it
+pub decides_behind : (x y : ℕ) (xs : List ℕ) (r : Bool) → (x ≡ y → ⊥) → Decides r (Contains xs y) → Decides r (Contains (x ∷ xs) y)
 decides_behind x y xs r ne (yes_if, if_yes) = (
   λ e. counted_has y (x ∷ xs) (omega (arith, count_behind y x xs ne, has_counted y xs (yes_if e))),
   λ h. if_yes (counted_has y xs (omega (arith, count_behind y x xs ne, has_counted y (x ∷ xs) h))),
 )
-
--- the second of two tests decides, where the first has failed
-pub decides_second : {A B : Type 0} (t u : Bool) → t ≡ false → (A → t ≡ true) → Decides u B → Decides u (A ⊎ B)
-decides_second {A} {B} t u failed if_first (yes_if, if_yes) = (λ e. inr (yes_if e), either)
-  where
-    either : A ⊎ B → u ≡ true
-    either (inl a) = absurd (both_ways t failed (if_first a))
-    either (inr b) = if_yes b
 
 -- a list around two neighbours, and with these exchanged
 pub split_two : {X : Type 0} (xs : List X) (k : ℕ) (x y : X) → slice_get xs k ≡ Some x → slice_get xs (suc k) ≡ Some y → (a : List X) × (b : List X) × (xs ≡ a ++ x ∷ y ∷ b) × (set (set xs k y) (suc k) x ≡ a ++ y ∷ x ∷ b)

@@ -1,6 +1,6 @@
 -- Faithful orders of a list of instances. A record is spoken of as the instance that it means.
-use Rattle.std.specs.Prelude.{◌≡◌, ℕ, ◌<◌, ◌⊎◌, List, ◌∷◌, ◌++◌, length, Some}
-use Rattle.std.specs.List.{ContainsAt, slice_get}
+use Rattle.std.specs.Prelude.{◌≡◌, ℕ, ◌<◌, ◌⊎◌, List, ◌∷◌, ◌++◌, length, Contains, Some}
+use Rattle.std.specs.List.{slice_get}
 use Rattle.records.specs.Instance.{Instance}
 
 -- the cells that an instance writes or reads
@@ -9,7 +9,7 @@ touched i = i.written ∷ i.reads
 
 -- one of the two writes a cell that the other reads or writes
 abbrev pub Conflict : Instance → Instance → Type 0
-Conflict i j = ContainsAt (touched j) i.written ⊎ ContainsAt (touched i) j.written
+Conflict i j = Contains (touched j) i.written ⊎ Contains (touched i) j.written
 
 -- each record has a place in the list, and each place one record, which shows the instance there; two that conflict
 -- come in the sequence of their places

@@ -1,6 +1,6 @@
 -- Taking records one after the other, by versions and tallies.
-use Rattle.std.specs.Prelude.{◌≡◌, ℕ, ◌+◌, List, take, Some}
-use Rattle.std.specs.List.{AllByRecursion, slice_get}
+use Rattle.std.specs.Prelude.{◌≡◌, ℕ, ◌+◌, List, All, take, Some}
+use Rattle.std.specs.List.{slice_get}
 use Rattle.records.specs.Instance.{Instance}
 use Rattle.sources.specs.Questions.{earlier, readers, slots_of, writer, writes}
 
@@ -17,7 +17,7 @@ tally c r = readers c (version c r) r
 pub record VersionsAgree (l r : List Instance) (i : Instance) (p : ℕ) : Type 0 where
   pub named : writer i.written (version i.written r) l ≡ Some p
   pub shown : slice_get l p ≡ Some i
-  pub current : AllByRecursion (λ c. version c r ≡ earlier c p l) i.reads
+  pub current : All (λ c. version c r ≡ earlier c p l) i.reads
 
 -- the version that i overwrites has been read, with the reads of i itself, as often as the list reads it
 abbrev pub TallyFull : List Instance → List Instance → Instance → Type 0

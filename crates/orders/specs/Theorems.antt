@@ -1,5 +1,5 @@
 -- What is proved of faithful orders, over every list of instances.
-use Rattle.std.specs.Prelude.{◌≡◌, ℕ, ◌+◌, cond, ◌≢◌, ◌↔◌, List, [], ◌∷◌, ◌++◌, length, ◌==◌}
+use Rattle.std.specs.Prelude.{◌≡◌, ℕ, ◌+◌, if◌then◌else◌, ◌≢◌, ◌↔◌, List, [], ◌∷◌, ◌++◌, length, ◌==◌}
 use Rattle.records.specs.Doing.{Arithmetic, leaves}
 use Rattle.records.specs.Instance.{Instance}
 use Rattle.sources.specs.Questions.{slots_of}
@@ -44,4 +44,4 @@ ExchangeBreaks x y = Conflict x y → x ≢ y → (l a b : List Instance) → Fa
 
 -- how a record that is taken changes the version and the tally of each cell
 abbrev pub ShadowMoves : Type 0
-ShadowMoves = (r : List Instance) (i : Instance) (c : ℕ) → (version c (r ++ i ∷ []) ≡ version c r + cond (i.written == c) 1 0) × (tally c (r ++ i ∷ []) ≡ cond (i.written == c) 0 (tally c r + slots_of c i))
+ShadowMoves = (r : List Instance) (i : Instance) (c : ℕ) → (version c (r ++ i ∷ []) ≡ version c r + (if i.written == c then 1 else 0)) × (tally c (r ++ i ∷ []) ≡ (if i.written == c then 0 else tally c r + slots_of c i))
