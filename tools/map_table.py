@@ -40,22 +40,14 @@ def outcome(byte):
 def main():
     print("//! What each map byte gives, with the bytes 1 to 13 after it. Written by tools/map_table.py.")
     print()
-    print("/// What the bytes give.")
-    print("pub enum Case {")
-    print("    /// It is refused by this number.")
-    print("    Refused(u8),")
-    print("    /// It begins a record of so many bytes, with this text.")
-    print("    Read(usize, &'static str),")
-    print("}")
-    print()
-    print("/// By map byte.")
-    print("pub static CASES: [Case; 256] = [")
+    print("/// By map byte: how many bytes the record has that they begin, and its text, or the number of the refusal.")
+    print("pub static CASES: [Result<(usize, &'static str), u8>; 256] = [")
     for byte in range(256):
         number, size, text = outcome(byte)
         if number:
-            print(f"    Case::Refused({number}),")
+            print(f"    Err({number}),")
         else:
-            print(f'    Case::Read({size}, "{text}"),')
+            print(f'    Ok(({size}, "{text}")),')
     print("];")
 
 

@@ -46,3 +46,7 @@ told_more bs cs whole n i w v e q r =
     append_assoc bs cs (told (n + 1) v)
     ∙ (ap (λ (l : List ℕ). bs ++ (l ++ told (n + 1) v)) r
     ∙ (ap (λ (x : Walk). bs ++ told n x) (sym e) ∙ q))
+
+-- the last line
+pub told_to_the_end : (bytes bs : List ℕ) (n : ℕ) (w v : Walk) → length bytes ≤ 65536 → w ≡ v → bs ++ told n w ≡ told 0 (whole bytes) → bs ++ told n v ≡ listing bytes
+told_to_the_end bytes bs n w v fits e q = ap (λ (x : Walk). bs ++ told n x) (sym e) ∙ (q ∙ sym (short bytes fits))

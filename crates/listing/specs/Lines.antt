@@ -1,5 +1,5 @@
 -- The text of a whole trace.
-use Rattle.std.specs.Prelude.{◌≡◌, ℕ, ◌+◌, ◌<◌, ◌≤◌, cond, List, [], ◌∷◌, ◌++◌, length, take, Some, None, codes, decimal, Option, nat_lt}
+use Rattle.std.specs.Prelude.{◌≡◌, ℕ, ◌+◌, ◌<◌, ◌≤◌, if◌then◌else◌, List, [], ◌∷◌, ◌++◌, length, take, Some, None, codes, decimal, Option, nat_lt}
 use Rattle.records.specs.Instance.{Instance}
 use Rattle.records.specs.Text.{text}
 use Rattle.trace.specs.Faults as faults
@@ -34,7 +34,7 @@ lines n (i ∷ is) o = line (n + 1) i ++ lines (n + 1) is o
 
 -- the text of a trace, which has at most 65,536 bytes
 abbrev pub listing : List ℕ → List ℕ
-listing bs = cond (nat_lt 65536 (length bs)) (refused_text TooLong ++ codes "\n") (lines 0 (whole bs).taken (whole bs).stop)
+listing bs = if nat_lt 65536 (length bs) then refused_text TooLong ++ codes "\n" else lines 0 (whole bs).taken (whole bs).stop
 
 -- the text has a line for each record that the trace spells, up to its end or to the bytes that are refused; a trace
 -- that spells records to its end has their lines and their number

@@ -9,7 +9,7 @@ use trace::ReadFault;
 pub const MOST_BYTES: usize = 65536;
 
 /// Why a trace is not listed to its end.
-#[derive(Clone, Copy, Debug)]
+#[derive(Clone, Copy, Debug, PartialEq, Eq)]
 pub enum ListFault {
     /// The trace has more than `MOST_BYTES` bytes.
     TooLong,

@@ -36,24 +36,19 @@ impl fmt::Display for Listing<'_> {
 
     fn fmt<W: fmt::Write>(&self, f: &mut fmt::Formatter<W>) -> fmt::Result {
         if self.bytes.len() > MOST_BYTES {
-            let fault = ListFault::TooLong;
-            return write!(f, "{fault}\n");
+            return writeln!(f, "{}", ListFault::TooLong);
         }
         let mut reader = TraceReader::new(self.bytes);
         let mut count = 0u32;
         loop {
-            let next = match reader.next_record() {
-                Ok(next) => next,
-                Err(fault) => {
-                    let fault = ListFault::Read(fault);
-                    return write!(f, "{fault}\n");
+            match reader.next_record() {
+                Ok(Some(record)) => {
+                    count += 1;
+                    writeln!(f, "{count}: {record}")?;
                 }
-            };
-            let Some(record) = next else {
-                return write!(f, "{count} records\n");
-            };
-            count += 1;
-            write!(f, "{count}: {record}\n")?;
+                Ok(None) => return writeln!(f, "{count} records"),
+                Err(fault) => return writeln!(f, "{}", ListFault::Read(fault)),
+            }
         }
     }
 }

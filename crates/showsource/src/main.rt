@@ -4,6 +4,7 @@
 use layers::{After, Rounds};
 use records::{MOST_READS, Row};
 use sources::{Counts, Parts, Source};
+use std::fmt::Display;
 use std::io;
 use written::WrittenList;
 
@@ -44,95 +45,104 @@ const LAST: [Row; 1] = [Row {
 }];
 
 /// Prints a space and a number, or a dash where there is none.
-fn show_number(rt: &HostRuntime, number: Option<u32>) -> io::Result<()> {
+fn show_number<N: Display + Drop>(rt: &HostRuntime, number: Option<N>) -> io::Result<()> {
     match number {
-        Some(n) => print!(rt; " {n}"),
+        Some(number) => print!(rt; " {number}"),
         None => print!(rt; " -"),
     }
 }
 
-/// Prints the cell in each slot of the instance at a position.
-fn show_slots<S: Source>(rt: &HostRuntime, source: &S, position: u32) -> io::Result<()> {
-    print!(rt; ", slots")?;
-    for slot in 0..=MOST_READS {
-        match source.cell_at(position, slot) {
-            Some(cell) => print!(rt; " {cell}")?,
-            None => print!(rt; " -")?,
+/// Prints what is answered at each number from 0 to the last.
+fn show_each<F: Fn(u32) -> Option<u32>>(rt: &HostRuntime, last: u32, answer: F) -> io::Result<()>
+    requires { F.IsAlwaysCallable answer }
+{
+    for number in 0..=last {
+        show_number(rt, answer(number))?;
+    }
+    Ok(())
+}
+
+/// A source, and where its answers are printed.
+#[derive(Clone, Copy)]
+struct Shown<'a, S> {
+    rt: &'a HostRuntime,
+    source: &'a S,
+}
+
+impl<S: Source> Shown<'_, S> {
+    /// Prints the cell in each slot of the instance at a position.
+    fn slots(&self, position: u32) -> io::Result<()> {
+        print!(self.rt; ", slots")?;
+        for slot in 0..=MOST_READS {
+            show_number(self.rt, self.source.cell_at(position, slot))?;
         }
+        println!(self.rt)
     }
-    println!(rt)
-}
 
-/// Prints the instance at a position, as a record and by its parts.
-fn show_instance<S: Source>(rt: &HostRuntime, source: &S, position: u32) -> io::Result<()> {
-    match source.record_at(position) {
-        Some(record) => print!(rt; "  {position}: {record}")?,
-        None => print!(rt; "  {position}: no instance")?,
+    /// Prints the instance at a position, as a record and by its parts.
+    fn instance(&self, position: u32) -> io::Result<()> {
+        match self.source.record_at(position) {
+            Some(record) => print!(self.rt; "  {position}: {record}")?,
+            None => print!(self.rt; "  {position}: no instance")?,
+        }
+        if let Some(operator) = self.source.operator_at(position) {
+            print!(self.rt; "; operator {operator}")?;
+        }
+        if let Some(cell) = self.source.written_at(position) {
+            print!(self.rt; ", writes {cell}")?;
+        }
+        if let Some(count) = self.source.count_at(position) {
+            print!(self.rt; " at count {count}")?;
+        }
+        if let Some(reads) = self.source.reads_at(position) {
+            print!(self.rt; ", reads {reads}")?;
+        }
+        self.slots(position)
     }
-    if let Some(operator) = source.operator_at(position) {
-        print!(rt; "; operator {operator}")?;
-    }
-    if let Some(cell) = source.written_at(position) {
-        print!(rt; ", writes {cell}")?;
-    }
-    if let Some(count) = source.count_at(position) {
-        print!(rt; " at count {count}")?;
-    }
-    if let Some(reads) = source.reads_at(position) {
-        print!(rt; ", reads {reads}")?;
-    }
-    show_slots(rt, source, position)
-}
 
-/// Prints the writers of a cell, from count 0 to the first that has none.
-fn show_writers<S: Source>(rt: &HostRuntime, source: &S, cell: u16) -> io::Result<()> {
-    print!(rt; "  cell {cell}: written {} times, at", source.writes(cell))?;
-    for count in 0..=source.writes(cell) {
-        show_number(rt, source.writer(cell, count))?;
+    /// Prints the writers of a cell from count 0 to the first that has none, its earlier writes before each position and
+    /// before the first past the end, and its readers at each version.
+    fn cell(&self, cell: u16) -> io::Result<()> {
+        let writes = self.source.writes(cell);
+        print!(self.rt; "  cell {cell}: written {writes} times, at")?;
+        show_each(self.rt, writes, |count| self.source.writer(cell, count))?;
+        print!(self.rt; "; earlier")?;
+        show_each(self.rt, self.source.length(), |position| {
+            Some(self.source.earlier(cell, position))
+        })?;
+        print!(self.rt; "; readers")?;
+        show_each(self.rt, writes, |version| {
+            Some(self.source.readers(cell, version))
+        })?;
+        println!(self.rt; ", in all {}", self.source.read_slots(cell))
     }
-    Ok(())
-}
 
-/// Prints the earlier writes of a cell, before each position and before the first past the end.
-fn show_earlier<S: Source>(rt: &HostRuntime, source: &S, cell: u16) -> io::Result<()> {
-    print!(rt; "; earlier")?;
-    for position in 0..=source.length() {
-        print!(rt; " {}", source.earlier(cell, position))?;
+    /// Prints the instances, and the first position past them.
+    fn instances(&self) -> io::Result<()> {
+        for position in 0..=self.source.length() {
+            self.instance(position)?;
+        }
+        Ok(())
     }
-    Ok(())
-}
 
-/// Prints the readers of a cell at each version.
-fn show_readers<S: Source>(rt: &HostRuntime, source: &S, cell: u16) -> io::Result<()> {
-    print!(rt; "; readers")?;
-    for version in 0..=source.writes(cell) {
-        print!(rt; " {}", source.readers(cell, version))?;
+    /// Prints all that the source answers.
+    fn whole(&self, name: &str) -> io::Result<()> {
+        println!(self.rt;
+            "{name}: {} cells, {} instances",
+            self.source.cells(),
+            self.source.length()
+        )?;
+        self.instances()?;
+        for cell in 0..self.source.cells() {
+            self.cell(cell)?;
+        }
+        Ok(())
     }
-    println!(rt; ", in all {}", source.read_slots(cell))
-}
-
-/// Prints the instances of a source, and the first position past them.
-fn show_instances<S: Source>(rt: &HostRuntime, source: &S) -> io::Result<()> {
-    for position in 0..=source.length() {
-        show_instance(rt, source, position)?;
-    }
-    Ok(())
 }
 
 /// Prints all that a source answers.
 fn show<S: Source>(rt: &HostRuntime, name: &str, source: &S) -> io::Result<()> {
-    println!(rt;
-        "{name}: {} cells, {} instances",
-        source.cells(),
-        source.length()
-    )?;
-    show_instances(rt, source)?;
-    for cell in 0..source.cells() {
-        show_writers(rt, source, cell)?;
-        show_earlier(rt, source, cell)?;
-        show_readers(rt, source, cell)?;
-    }
-    Ok(())
+    Shown { rt, source }.whole(name)
 }
 
 /// Prints what a list of rows answers, the list twice over, and that with another list after it.

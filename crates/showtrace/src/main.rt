@@ -16,11 +16,8 @@ fn read_front(rt: &HostRuntime, path: &str, most: u64) -> io::Result<Vec<u8>> {
         Ok(file) => {
             let _ = file.take(most).read_to_end(&mut bytes)?;
         }
-        Err(error) => {
-            if error.kind() != ErrorKind::NotFound {
-                return Err(error);
-            }
-        }
+        Err(error) if error.kind() == ErrorKind::NotFound => {}
+        Err(error) => return Err(error),
     }
     Ok(bytes)
 }

@@ -1,5 +1,5 @@
 //! Every map byte, with enough bytes after it and with one too few.
-use crate::cases::{CASES, Case};
+use crate::cases::CASES;
 use std::alloc::Global;
 use std::process::Abort;
 use std::test::Fail;
@@ -34,12 +34,12 @@ fn read(rt: &impl Abort, heap: Global, bytes: &[u8], size: usize, text: &str) ->
 fn every_map_byte(rt: HostRuntime) -> Result<(), Fail> {
     for map in 0..=255u8 {
         let bytes = [map, 1, 2, 3, 4, 5, 6, 7, 8, 9, 10, 11, 12, 13];
-        match CASES[map as usize] {
-            Case::Refused(number) => {
+        match CASES[usize::from(map)] {
+            Err(number) => {
                 refused(&rt, &bytes, number)?;
                 refused(&rt, &bytes[0..1], number)?;
             }
-            Case::Read(size, text) => {
+            Ok((size, text)) => {
                 read(&rt, rt.alloc(), &bytes, size, text)?;
                 assert!(rt; size > 0 && size <= 14);
                 refused(&rt, &bytes[0..size - 1], 44)?;
