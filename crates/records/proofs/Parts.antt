@@ -7,7 +7,3 @@ use Rattle.records.specs.declared.record.Record.{Record}
 
 pub same_parts : (x y : Instance) → x.operator ≡ y.operator → x.written ≡ y.written → x.reads ≡ y.reads → x ≡ y
 same_parts x y p q r = λ i. record { operator = p i; written = q i; reads = r i }
-
--- what a record means can be recorded
-pub recordable : (r : Record) → Recordable (instance r)
-recordable r = record { small = r.operator_fits; few = omega (arith, length-take r.row.count r.row.reads, r.reads_fit) }

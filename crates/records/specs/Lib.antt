@@ -1,4 +1,5 @@
 pub mod Instance
+pub mod Record
 pub mod Meaning
 pub mod Making
 pub mod Text

@@ -10,4 +10,4 @@ row_instance r = record { operator = r.operator; written = r.written; reads = ta
 
 -- what a record means
 abbrev pub instance : Record → Instance
-instance r = row_instance r.row
+instance r = r

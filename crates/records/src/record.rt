@@ -1,17 +1,33 @@
-//! A record: a row that passed its tests.
-ghost use Rattle.std.specs.Prelude.{◌≤◌};
-
-use crate::row::Row;
+//! A record: an instance that a trace can hold.
+use crate::row::MOST_READS;
+use std::marker::Model;
 
 mod equality;
 mod making;
 mod parts;
 mod text;
 
-/// Its operator is at most 15, and it has at most five reads.
+/// It means an instance, which its contracts speak of. The operator is at most 15, and there are at most five reads.
 #[derive(Clone, Copy, Debug)]
 pub struct Record {
-    row: Row,
-    ghost operator_fits: { row.operator ≤ 15 },
-    ghost reads_fit: { row.count ≤ 5 },
+    operator: u8,
+    written: u16,
+    count: u8,
+    reads: [u16; MOST_READS],
+}
+
+impl Model for Record {
+    ghost use Rattle.records.specs.Instance.{Instance};
+
+    ghost Value = { Instance };
+
+    ghost use Rattle.records.specs.Record.{IsKept, fields_of, fields_of-instance_of, instance_of};
+
+    ghost view = { instance_of };
+
+    ghost invariant = { IsKept };
+
+    ghost inverse = { fields_of };
+
+    ghost inverse_ok = { fields_of-instance_of };
 }

@@ -1,5 +1,6 @@
 //! Writing a record as bytes.
 ghost use Rattle.std.specs.Prelude.{◌≡◌, ◌+◌, ◌*◌, ◌≤◌, length};
+ghost use Rattle.records.specs.Instance.{Recordable};
 ghost use Rattle.records.specs.Meaning.{instance};
 ghost use Rattle.trace.specs.Layouts.{byte_of, fields};
 ghost use Rattle.trace.specs.Writing.{is_first, shortest_fields, shortest, cell_bytes, put, written_to, write_answer, Shortest, ReadsBack};
@@ -33,7 +34,8 @@ pub fn write_record(record: &Record, out: &mut [u8]) -> Result<usize, WriteFault
 impl Layout {
     /// The layout of a record's shortest spelling.
     pub(crate) fn shortest(record: &Record) -> Layout
-        ensures { fields result ≡ shortest_fields (instance «record».now) }
+        ensures layout { fields result ≡ shortest_fields (instance «record».now) }
+        ensures recordable { Recordable (instance «record».now) }
     {
         let operator = record.operator() != 0;
         let written = !is_first(record.written(), record.reads());

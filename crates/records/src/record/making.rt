@@ -1,7 +1,6 @@
 //! Records from their parts and from rows, and back to rows.
-ghost use Rattle.std.specs.Prelude.{◌≡◌, length};
-ghost use Rattle.records.specs.Making.{judged, judged_row, result_map};
-ghost use Rattle.records.specs.Meaning.{instance};
+ghost use Rattle.std.specs.Prelude.{◌≡◌, ◌≤◌, length};
+ghost use Rattle.records.specs.Making.{judged, judged_row, row_of};
 
 use crate::fault::RecordFault;
 use crate::record::Record;
@@ -13,18 +12,26 @@ const LAST_OPERATOR: u8 = 15;
 impl Record {
     /// The record of these parts; an operator over 15 is refused first, then more than five reads.
     pub fn new(operator: u8, written: u16, reads: &[u16]) -> Result<Record, RecordFault>
-        ensures { result_map instance result ≡ judged operator (length reads.now) (record { operator = operator; written = written; reads = reads.now }) }
+        ensures { result ≡ judged operator (length reads.now) (record { operator = operator; written = written; reads = reads.now }) }
     {
         judge(operator, reads.len())?;
+        Ok(Record::keep(operator, written, reads))
+    }
+
+    /// The record of parts that were judged. What lies past its reads is 0.
+    fn keep(operator: u8, written: u16, reads: &[u16]) -> Record
+        requires small { operator ≤ 15 }
+        requires few { length reads.now ≤ 5 }
+        ensures { result ≡ record { operator = operator; written = written; reads = reads.now } }
+    {
         let mut cells = [0; MOST_READS];
         cells[0..reads.len()].copy_from_slice(reads);
-        let row = Row {
+        Record {
             operator,
             written,
             count: reads.len() as u8,
             reads: cells,
-        };
-        Ok(Record { row })
+        }
     }
 }
 
@@ -32,20 +39,27 @@ impl Record {
 impl TryFrom<Row> for Record {
     type Error = RecordFault;
 
-    ghost try_from_gives = { λ row made. result_map instance made ≡ judged_row row };
+    ghost try_from_gives = { λ row made. made ≡ judged_row row };
 
     fn try_from(row: Row) -> Result<Record, RecordFault> {
-        judge(row.operator, usize::from(row.count))?;
-        Ok(Record { row })
+        let count = usize::from(row.count);
+        judge(row.operator, count)?;
+        Ok(Record::keep(row.operator, row.written, &row.reads[0..count]))
     }
 }
 
-/// The row that the record lies in.
+/// The row of a record; what lies past its reads is 0.
 impl From<Record> for Row {
-    ghost from_gives = { λ made row. row ≡ made.row };
+    ghost from_gives = { λ made row. row ≡ row_of made };
 
     fn from(record: Record) -> Row {
-        record.row
+        let reads = record.reads;
+        Row {
+            operator: record.operator,
+            written: record.written,
+            count: record.count,
+            reads,
+        }
     }
 }
 

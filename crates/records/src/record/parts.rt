@@ -1,28 +1,29 @@
 //! The parts of a record.
-ghost use Rattle.std.specs.Prelude.{◌≡◌};
-ghost use Rattle.records.specs.Meaning.{instance};
+ghost use Rattle.std.specs.Prelude.{◌≡◌, ◌≤◌, length};
 
 use crate::record::Record;
 
 impl Record {
     /// The operator, from 0 to 15.
     pub fn operator(&self) -> u8
-        ensures { result ≡ (instance self.now).operator }
+        ensures value { result ≡ self.now.operator }
+        ensures small { result ≤ 15 }
     {
-        self.row.operator
+        self.operator
     }
 
     /// The cell that is written.
     pub fn written(&self) -> u16
-        ensures { result ≡ (instance self.now).written }
+        ensures { result ≡ self.now.written }
     {
-        self.row.written
+        self.written
     }
 
     /// The cells that are read, none to five, in order.
     pub fn reads(&self) -> &[u16]
-        ensures { result.now ≡ (instance self.now).reads }
+        ensures cells { result.now ≡ self.now.reads }
+        ensures few { length result.now ≤ 5 }
     {
-        &self.row.reads[0..usize::from(self.row.count)]
+        &self.reads[0..usize::from(self.count)]
     }
 }

@@ -9,4 +9,4 @@ pub returns-else-written-cell : goal.returns-else-written-cell
 returns-else-written-cell c =
     let i = instance c.args.record.now in
     decides_behind i.written c.args.cell i.reads c.contains.result (λ e. omega arith)
-    (rw c.reads.ensures at (Decides-contains c.reads.result.now c.args.cell c.contains.result (contains_decides eqb Decides-eqb c.reads.result.now c.args.cell c.contains.result c.contains.ensures.cases)))
+    (rw c.reads.ensures.cells at (Decides-contains c.reads.result.now c.args.cell c.contains.result (contains_decides eqb Decides-eqb c.reads.result.now c.args.cell c.contains.result c.contains.ensures.cases)))

@@ -12,6 +12,6 @@ returns g c =
     let found = item_nth c.reads.result.now (c.args.slot - 1) c.get.result c.get.ensures.lookup in
     c.copied.ensures
     ∙ (found
-    ∙ (ap (λ (l : List ℕ). slice_get l (c.args.slot - 1)) c.reads.ensures
+    ∙ (ap (λ (l : List ℕ). slice_get l (c.args.slot - 1)) c.reads.ensures.cells
     ∙ (ap (λ (o : Option Instance). option_flatten (option_map (slot_of (suc (c.args.slot - 1))) o)) c.in_ok-record.ensures
     ∙ ap (λ (k : ℕ). option_flatten (option_map (slot_of k) (slice_get (g.Self.Source.list c.args.self.now) c.args.position))) (sym slot))))

@@ -15,9 +15,10 @@ returns-in-Ok c =
     let operator : c.if-self.operator ≡ cond y.operator (get_or bs 1 0) 0 = search rules in
     let first : c.from-first.result ≡ bit y.operator = search rules in
     let second : c.from.result ≡ bit y.written = search rules in
+    let (same, small, _) = made_from made.operator y.reads made (instance c.in-Ok.record) c.in-Ok.ensures in
     record_is c.args.place bs y (instance c.in-Ok.record) (omega arith)
-    (made_from made.operator y.reads made (instance c.in-Ok.record) c.in-Ok.ensures
+    (same
     ∙ found_is bs y made c.args.self.now.some operator
     (c.read_cell-written.ensures ∙ ap (λ (n : ℕ). cell_at bs (1 + n)) first)
     (c.read_cells-reads.ensures ∙ (λ i. cells_in y.reads (drop (1 + first i + 2 * second i) bs))))
-    c.in-Ok.record.operator_fits
+    (omega (arith, ap (λ (x : Instance). x.operator) same, small))

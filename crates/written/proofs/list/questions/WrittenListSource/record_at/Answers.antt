@@ -1,5 +1,6 @@
 use Rattle.std.proofs.Common.{sym, ap, ◌∙◌}
 use Rattle.std.specs.Option.{option_map}
+use Rattle.records.specs.Making.{result_map}
 use Rattle.records.specs.Meaning.{instance, row_instance}
 use Rattle.sources.proofs.Items.{item_nth, nth_map}
 use Rattle.written.proofs.Rows.{all_rows_fit, fits_judged, ok_meant}
@@ -18,5 +19,5 @@ returns c =
     let found = sym (item_nth rows c.args.position c.get.result c.get.ensures.lookup) ∙ ap (option_map (λ x. x.now)) c.in_ok-row.was in
     let fits = all_rows_fit c.args.self.now.cells rows c.args.position row c.args.self.now.fit found in
     ap (option_map instance) c.ok.ensures.value
-    ∙ (ok_meant c.try_from.result (row_instance row) (c.try_from.ensures ∙ fits_judged c.args.self.now.cells row fits)
+    ∙ (ok_meant c.try_from.result (row_instance row) (ap (result_map instance) (c.try_from.ensures ∙ fits_judged c.args.self.now.cells row fits))
     ∙ sym (nth_map row_instance rows c.args.position ∙ ap (option_map row_instance) found))
