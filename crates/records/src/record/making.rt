@@ -52,12 +52,12 @@ impl TryFrom<Row> for Record {
 impl From<Record> for Row {
     ghost from_gives = { λ made row. row ≡ row_of made };
 
-    fn from(record: Record) -> Row {
-        let reads = record.reads;
+    fn from(made: Record) -> Row {
+        let reads = made.reads;
         Row {
-            operator: record.operator,
-            written: record.written,
-            count: record.count,
+            operator: made.operator,
+            written: made.written,
+            count: made.count,
             reads,
         }
     }
