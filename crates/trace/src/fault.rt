@@ -39,17 +39,17 @@ impl ReadFault {
         ensures { result ≡ place_of self }
     {
         match self {
-            ReadFault::HighBit { place } => place,
-            ReadFault::Gap { place } => place,
-            ReadFault::NoCell { place } => place,
-            ReadFault::PastEnd { place } => place,
-            ReadFault::Operator { place } => place,
+            ReadFault::HighBit { place }
+            | ReadFault::Gap { place }
+            | ReadFault::NoCell { place }
+            | ReadFault::PastEnd { place }
+            | ReadFault::Operator { place } => place,
         }
     }
 }
 
 /// Why a record cannot be written.
-#[derive(Clone, Copy, Debug)]
+#[derive(Clone, Copy, Debug, PartialEq, Eq)]
 pub enum WriteFault {
     /// Fewer bytes are left than the record takes, which is `size`.
     NoRoom { size: usize },
