@@ -1,47 +1,44 @@
 -- Reading finds exactly what is spelled.
-use Rattle.std.proofs.Common.{◌≡◌, ℕ, ◌+◌, ◌<◌, Bool, true, false, cond, List, [], ◌∷◌, ◌++◌, length, get_or, take, drop, Some, Ok, Option, Result, sym, refl, ap, ◌∙◌, append_assoc, arith, length-append}
+use Rattle.std.proofs.Common.{◌≡◌, ℕ, ◌+◌, ◌<◌, ◌≤◌, Bool, false, if◌then◌else◌, List, ◌∷◌, ◌++◌, length, get_or, take, drop, Some, Ok, Option, Result, sym, refl, ap, ◌∙◌, append_assoc, arith, length-append}
+use Rattle.std.proofs.lemmas.Bool.Decides.{nat_tests}
+use Rattle.std.proofs.lemmas.Grind.{common_steps}
 use Rattle.std.proofs.lemmas.List.{take_at}
 use Rattle.std.specs.List.{slice_get}
 use Rattle.records.proofs.Parts.{same_parts}
 use Rattle.records.specs.Instance.{Instance}
+use Rattle.records.specs.Making.{result_map}
 use Rattle.trace.proofs.Bytes.{byte_tells}
-use Rattle.trace.proofs.Found.{record_is}
 use Rattle.trace.proofs.Held.{length_held, cells_held}
 use Rattle.trace.specs.Layouts.{Fields, bit, byte_of, cells_of, size_of, if_set}
-use Rattle.trace.specs.Reading.{Piece, and_then, cells_in, found, layout_at, record_at, read_at}
+use Rattle.trace.specs.Reading.{and_then, cells_in, found, layout_at, record_at, read_at}
 use Rattle.trace.specs.Spelling.{Spells, Unambiguous}
 use Rattle.trace.specs.declared.fault.ReadFault.{ReadFault}
+use Rattle.trace.specs.declared.reading.Front.{Front}
 
 -- the written cell is the first of the cells that stand
 first_is : (w : Bool) (c : ℕ) (rs : List ℕ) → (w ≡ false → slice_get rs 0 ≡ Some c) → get_or (if_set w c ++ rs) 0 0 ≡ c
-first_is true c rs h = refl
-first_is false c [] h = let z = h refl in cc
-first_is false c (r ∷ rs) h = let z = h refl in cc
+first_is w c rs h = grind (arith, common_steps)
 
 rest_is : (w : Bool) (c : ℕ) (rs : List ℕ) → drop (bit w) (if_set w c ++ rs) ≡ rs
-rest_is true c rs = refl
-rest_is false c rs = refl
+rest_is w c rs = grind (arith, common_steps)
 
 count_is : (w : Bool) (c : ℕ) (rs : List ℕ) (n : ℕ) → n ≡ length rs → bit w + n ≡ length (if_set w c ++ rs)
-count_is true c rs n e = omega arith
-count_is false c rs n e = omega arith
+count_is w c rs n e = grind (arith, common_steps)
 
 some_is : (w : Bool) (c : ℕ) (rs : List ℕ) → (w ≡ false → slice_get rs 0 ≡ Some c) → 0 < length (if_set w c ++ rs)
-some_is true c rs h = omega arith
-some_is false c [] h = let z = h refl in cc
-some_is false c (r ∷ rs) h = omega arith
+some_is w c rs h = grind (arith, common_steps)
 
-operator_is : (o : Bool) (c b : ℕ) (xs : List ℕ) → (o ≡ false → c ≡ 0) → cond o (get_or (b ∷ (if_set o c ++ xs)) 1 0) 0 ≡ c
-operator_is true c b xs h = refl
-operator_is false c b xs h = sym (h refl)
+operator_is : (o : Bool) (c b : ℕ) (xs : List ℕ) → (o ≡ false → c ≡ 0) → (if o then get_or (b ∷ (if_set o c ++ xs)) 1 0 else 0) ≡ c
+operator_is o c b xs h = grind arith
 
 past_operator : (o : Bool) (c b : ℕ) (xs : List ℕ) → drop (1 + bit o) (b ∷ (if_set o c ++ xs)) ≡ xs
-past_operator true c b xs = refl
-past_operator false c b xs = refl
+past_operator o c b xs = grind arith
 
 length_fields : (o : Bool) (c b : ℕ) (xs : List ℕ) → length (b ∷ (if_set o c ++ xs)) ≡ 1 + (bit o + length xs)
-length_fields true c b xs = omega arith
-length_fields false c b xs = omega arith
+length_fields o c b xs = grind arith
+
+record_is : (p : ℕ) (bs : List ℕ) (y : Fields) (i : Instance) → size_of y ≤ length bs → found y bs ≡ i → i.operator ≤ 15 → record_at p bs y ≡ Ok i
+record_is p bs y i fits is small = grind (arith, nat_tests)
 
 module _ (s t : List ℕ) (i : Instance) (h : Spells s i) where
   count : cells_of h.fields ≡ length (if_set h.fields.written i.written ++ i.reads)
@@ -83,36 +80,31 @@ module _ (s t : List ℕ) (i : Instance) (h : Spells s i) where
 
   laid_record : (p : ℕ) → record_at p laid h.fields ≡ Ok i
   laid_record p =
-      sym
-      (record_is p laid h.fields i
-      (omega (arith, size_is, ap length laid_is, length-append s t))
-      (sym laid_found) h.sound.small)
+      record_is p laid h.fields i (omega (arith, size_is, ap length laid_is, length-append s t)) laid_found h.sound.small
 
   laid_layout : (p : ℕ) → layout_at p (byte_of h.fields) ≡ Ok h.fields
   laid_layout p =
       byte_tells p h.fields (omega (arith, h.reads, h.sound.few))
       (omega (arith, count, some_is h.fields.written i.written i.reads h.written))
 
-  laid_read : (p : ℕ) → read_at p laid ≡ Ok (Some (record { meaning = i; size = size_of h.fields }))
+  laid_read : (p : ℕ) → read_at p laid ≡ Ok (Some (record { found = i; size = size_of h.fields }))
   unfolding laid
   laid_read p =
-      ap (λ (r : Result Fields ReadFault). and_then r (λ y. and_then (record_at p laid y) (λ j. Ok (Some (record { meaning = j; size = size_of y }))))) (laid_layout p)
-      ∙ ap (λ (r : Result Instance ReadFault). and_then r (λ j. Ok (Some (record { meaning = j; size = size_of h.fields })))) (laid_record p)
+      let piece : Fields → Instance → Option Front = λ y j. Some (record { found = j; size = size_of y }) in
+      ap (λ (r : Result Fields ReadFault). and_then r (λ y. result_map (piece y) (record_at p laid y))) (laid_layout p)
+      ∙ ap (result_map (piece h.fields)) (laid_record p)
 
   -- a record is read wherever its spelling begins the bytes
-  pub spelled_read : (p : ℕ) → read_at p (s ++ t) ≡ Ok (Some (record { meaning = i; size = length s }))
+  pub spelled_read : (p : ℕ) → read_at p (s ++ t) ≡ Ok (Some (record { found = i; size = length s }))
   spelled_read p =
       ap (read_at p) laid_is
-      ∙ (laid_read p ∙ ap (λ (n : ℕ). Ok (Some (record { meaning = i; size = n }))) (sym size_is))
+      ∙ (laid_read p ∙ ap (λ (n : ℕ). Ok (Some (record { found = i; size = n }))) (sym size_is))
+
+same_front : (i j : Instance) (m n : ℕ) → ◌≡◌ {A = Result (Option Front) ReadFault} (Ok (Some (record { found = i; size = m }))) (Ok (Some (record { found = j; size = n }))) → (m ≡ n) × (i ≡ j)
+same_front i j m n e = grind arith
 
 -- two spellings that begin the same bytes are one
 pub unambiguous : Unambiguous
 unambiguous s t s' t' i i' e h h' =
-    let a = spelled_read s t i h 0 in
-    let b = spelled_read s' t' i' h' 0 in
-    let c : ◌≡◌ {A = Result (Option Piece) ReadFault} (Ok (Some (record { meaning = i; size = length s }))) (Ok (Some (record { meaning = i'; size = length s' }))) = sym a ∙ (ap (read_at 0) e ∙ b) in
-    let d : ◌≡◌ {A = Piece} (record { meaning = i; size = length s }) (record { meaning = i'; size = length s' }) = cc in
-    let n : length s ≡ length s' = ap (λ (x : Piece). x.size) d in (
-      sym (take_at s t (length s) refl) ∙ ((λ k. take (n k) (e k)) ∙ take_at s' t' (length s') refl),
-      ap (λ (x : Piece). x.meaning) d,
-    )
+    let (n, same) = same_front i i' (length s) (length s') (sym (spelled_read s t i h 0) ∙ (ap (read_at 0) e ∙ spelled_read s' t' i' h' 0)) in
+    (sym (take_at s t (length s) refl) ∙ ((λ k. take (n k) (e k)) ∙ take_at s' t' (length s') refl), same)

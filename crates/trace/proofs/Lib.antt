@@ -1,7 +1,6 @@
 mod Bytes
 mod Cells
 mod Exact
-mod Found
 mod Held
 mod Places
 mod Puts

@@ -1,5 +1,5 @@
 -- Which fields of a record stand in its bytes.
-use Rattle.std.specs.Prelude.{ℕ, ◌+◌, ◌-◌, ◌*◌, ◌^◌, Bool, cond, List, [], ◌∷◌}
+use Rattle.std.specs.Prelude.{ℕ, ◌+◌, ◌-◌, ◌*◌, ◌^◌, Bool, if◌then◌else◌, List, [], ◌∷◌}
 use Rattle.trace.specs.declared.layout.Layout.{Layout}
 
 -- the fields that follow a map byte: an operator byte, the written cell, and so many reads
@@ -14,7 +14,7 @@ fields y = record { operator = y.operator; written = y.written; reads = y.reads 
 
 -- 1 for a bit that stands
 abbrev pub bit : Bool → ℕ
-bit b = cond b 1 0
+bit b = if b then 1 else 0
 
 -- the map byte: bit 0 for the operator, bit 1 for the written cell, and from bit 2 up a bit for each read
 abbrev pub byte_of : Fields → ℕ
@@ -30,4 +30,4 @@ size_of y = 1 + (bit y.operator + 2 * cells_of y)
 
 -- a list of the one thing whose bit stands, or of none
 abbrev pub if_set : Bool → ℕ → List ℕ
-if_set b x = cond b (x ∷ []) []
+if_set b x = if b then x ∷ [] else []

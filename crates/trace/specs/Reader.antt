@@ -1,13 +1,14 @@
 -- A trace reader: where it stands, and what its next step answers.
 use Rattle.std.specs.Prelude.{◌≡◌, ℕ, ◌+◌, ◌-◌, List, [], ◌++◌, take, drop, Some, None, Ok, Err, Option, Result}
+use Rattle.std.specs.Option.{option_map}
 use Rattle.records.specs.Instance.{Instance}
-use Rattle.records.specs.Meaning.{instance}
-use Rattle.records.specs.declared.record.Record.{Record}
+use Rattle.records.specs.Making.{result_map}
 use Rattle.trace.specs.Faults.{place_of}
-use Rattle.trace.specs.Reading.{Piece, read_at}
+use Rattle.trace.specs.Reading.{read_at}
 use Rattle.trace.specs.Spelling.{Spells}
 use Rattle.trace.specs.declared.fault.ReadFault.{ReadFault}
 use Rattle.trace.specs.declared.reader.TraceReader.{TraceReader}
+use Rattle.trace.specs.declared.reading.Front.{Front}
 
 -- where a reader stands: the whole trace, where the record begins that was read last, and the place it came to
 pub record Cursor : Type 0 where
@@ -27,20 +28,8 @@ left c = drop c.place c.bytes
 abbrev pub spelling : Cursor → List ℕ
 spelling c = take (c.place - c.start) (drop c.start c.bytes)
 
--- the meaning of what was read
-abbrev pub answer : Result (Option Piece) ReadFault → Result (Option Instance) ReadFault
-answer (Ok (Some x)) = Ok (Some x.meaning)
-answer (Ok None) = Ok None
-answer (Err f) = Err f
-
--- an answer by what its record means
-abbrev pub told : Result (Option Record) ReadFault → Result (Option Instance) ReadFault
-told (Ok (Some r)) = Ok (Some (instance r))
-told (Ok None) = Ok None
-told (Err f) = Err f
-
 -- a step passes the record that it found, and else goes nowhere
-abbrev pub stepped : Cursor → Result (Option Piece) ReadFault → Cursor
+abbrev pub stepped : Cursor → Result (Option Front) ReadFault → Cursor
 stepped c (Ok (Some x)) = record { bytes = c.bytes; start = c.place; place = c.place + x.size }
 stepped c (Ok None) = c
 stepped c (Err f) = c
@@ -49,9 +38,9 @@ stepped c (Err f) = c
 abbrev pub after : Cursor → Cursor
 after c = stepped c (read_at c.place (left c))
 
--- what the next step answers
+-- what the next step answers: the record that is read
 abbrev pub next : Cursor → Result (Option Instance) ReadFault
-next c = answer (read_at c.place (left c))
+next c = result_map (option_map (λ x. x.found)) (read_at c.place (left c))
 
 -- a step finds exactly what is spelled: none only at the end, a record whose spelling it passes, and a refusal only
 -- where no record is spelled

@@ -1,5 +1,5 @@
 -- What writing a record leaves, and answers.
-use Rattle.std.specs.Prelude.{◌≡◌, ℕ, ◌+◌, ◌/◌, ◌%◌, ◌≤◌, Bool, false, cond, not, List, [], ◌∷◌, ◌++◌, length, take, drop, Some, Ok, Err, Result, ◌==◌, nat_lt}
+use Rattle.std.specs.Prelude.{◌≡◌, ℕ, ◌/◌, ◌%◌, ◌≤◌, Bool, false, if◌then◌else◌, not, List, [], ◌∷◌, ◌++◌, length, drop, Some, Ok, Err, Result, ◌==◌, nat_lt}
 use Rattle.records.specs.Instance.{Instance}
 use Rattle.trace.specs.Layouts.{Fields, byte_of, if_set}
 use Rattle.trace.specs.Reading.{read_at}
@@ -29,17 +29,17 @@ spelled y i = byte_of y ∷ (if_set y.operator i.operator ++ cell_bytes (if_set 
 abbrev pub shortest : Instance → List ℕ
 shortest i = spelled (shortest_fields i) i
 
--- bytes put over others from place n on
-abbrev pub put : ℕ → List ℕ → List ℕ → List ℕ
-put n s out = take n out ++ (s ++ drop (n + length s) out)
+-- bytes over the front of others, of which the later ones stay
+abbrev pub over : List ℕ → List ℕ → List ℕ
+over s out = s ++ drop (length s) out
 
 -- what is left in a buffer: the bytes and then its later ones, or, where they have no room, what it held
 abbrev pub written_to : List ℕ → List ℕ → List ℕ
-written_to s out = cond (nat_lt (length out) (length s)) out (s ++ drop (length s) out)
+written_to s out = if nat_lt (length out) (length s) then out else over s out
 
 -- how many bytes were written
 abbrev pub write_answer : List ℕ → List ℕ → Result ℕ WriteFault
-write_answer s out = cond (nat_lt (length out) (length s)) (Err (NoRoom (length s))) (Ok (length s))
+write_answer s out = if nat_lt (length out) (length s) then Err (NoRoom (length s)) else Ok (length s)
 
 -- what is written spells the record, and nothing shorter does
 abbrev pub Shortest : Instance → Type 0
@@ -47,4 +47,4 @@ Shortest i = Spells (shortest i) i × ((s : List ℕ) → Spells s i → length 
 
 -- what is written reads back as the record, at any place and whatever bytes follow
 abbrev pub ReadsBack : Instance → Type 0
-ReadsBack i = (p : ℕ) (t : List ℕ) → read_at p (shortest i ++ t) ≡ Ok (Some (record { meaning = i; size = length (shortest i) }))
+ReadsBack i = (p : ℕ) (t : List ℕ) → read_at p (shortest i ++ t) ≡ Ok (Some (record { found = i; size = length (shortest i) }))

@@ -1,13 +1,15 @@
 //! Reading the record at the front of some bytes.
-ghost use Rattle.std.specs.Prelude.{◌≡◌, ◌+◌, ◌*◌, ◌<◌, ◌≤◌, length, take, drop};
+ghost use Rattle.std.specs.Prelude.{◌≡◌, ◌+◌, ◌*◌, ◌<◌, ◌≤◌, length, take};
 ghost use Rattle.records.specs.Making.{result_map};
-ghost use Rattle.records.specs.Meaning.{instance};
-ghost use Rattle.trace.specs.Layouts.{fields, size_of};
-ghost use Rattle.trace.specs.Reading.{laid_out, layout_at, cell_at, cells_in, record_at, read_at, pieces};
+ghost use Rattle.trace.specs.Layouts.{bit, cells_of, fields, size_of};
+ghost use Rattle.trace.specs.Reading.{cell_in, cells_in, layout_at, read_at, record_at};
 
 use crate::fault::ReadFault;
 use crate::layout::Layout;
-use records::{MOST_READS, Record, Row};
+use records::{MOST_READS, Record};
+
+/// The most cells that a record has: the written one, and its reads.
+const MOST_CELLS: usize = 1 + MOST_READS;
 
 /// The record at the front of some bytes, and how many of them it takes.
 #[derive(Clone, Copy)]
@@ -19,7 +21,7 @@ pub(crate) struct Front {
 impl Layout {
     /// The layout that a map byte tells.
     pub(crate) fn from_byte(byte: u8, place: usize) -> Result<Layout, ReadFault>
-        ensures { laid_out result ≡ layout_at place byte }
+        ensures { result_map fields result ≡ layout_at place byte }
     {
         // Bit 7.
         if byte >= 128 {
@@ -48,62 +50,65 @@ impl Layout {
         })
     }
 
+    /// How many cells stand in a record of this layout.
+    fn cells(&self) -> usize
+        ensures { result ≡ cells_of (fields self.now) }
+    {
+        usize::from(self.written) + self.reads
+    }
+
+    /// Where its cells begin, after the map byte and the operator.
+    pub(crate) fn first_cell(&self) -> usize
+        ensures { result ≡ 1 + bit self.now.operator }
+    {
+        1 + usize::from(self.operator)
+    }
+
     /// How many bytes a record of this layout has.
     pub(crate) fn size(&self) -> usize
         ensures { result ≡ size_of (fields self.now) }
     {
-        let cells = usize::from(self.written) + self.reads;
-        1 + usize::from(self.operator) + 2 * cells
+        self.first_cell() + 2 * self.cells()
     }
 
     /// The record of this layout at the front of `bytes`, which lie at `place` in the trace.
     pub(crate) fn record(&self, bytes: &[u8], place: usize) -> Result<Record, ReadFault>
-        ensures { result_map instance result ≡ record_at place bytes.now (fields self.now) }
+        ensures { result ≡ record_at place bytes.now (fields self.now) }
     {
         if bytes.len() < self.size() {
             return Err(ReadFault::PastEnd { place });
         }
         let operator = if self.operator { bytes[1] } else { 0 };
-        let first = 1 + usize::from(self.operator);
-        let written = read_cell(bytes, first);
-        let second = first + 2 * usize::from(self.written);
-        let reads = read_cells(bytes, second, self.reads);
-        let row = Row {
-            operator,
-            written,
-            count: self.reads as u8,
-            reads,
-        };
-        match Record::try_from(row) {
-            Ok(record) => Ok(record),
-            Err(_) => Err(ReadFault::Operator { place }),
-        }
+        let cells = read_cells(&bytes[self.first_cell()..], self.cells());
+        let cells = &cells[..self.cells()];
+        let reads = &cells[usize::from(self.written)..];
+        Record::new(operator, cells[0], reads).map_err(|_| ReadFault::Operator { place })
     }
 }
 
-/// The cell in the two bytes from `place` on, the low byte first.
-fn read_cell(bytes: &[u8], place: usize) -> u16
-    requires { place + 1 < length bytes.now }
-    ensures { result ≡ cell_at bytes.now place }
+/// The cell in the first two bytes, the low byte first.
+fn read_cell(bytes: &[u8]) -> u16
+    requires { 2 ≤ length bytes.now }
+    ensures { result ≡ cell_in bytes.now }
 {
-    u16::from_le_bytes([bytes[place], bytes[place + 1]])
+    u16::from_le_bytes([bytes[0], bytes[1]])
 }
 
-/// The cells from `place` on.
-fn read_cells(bytes: &[u8], place: usize, count: usize) -> [u16; MOST_READS]
-    requires { (place + 2 * count ≤ length bytes.now) × (count ≤ 5) }
-    ensures { take count result ≡ cells_in count (drop place bytes.now) }
+/// The first `count` cells in some bytes, at the front of an array.
+fn read_cells(bytes: &[u8], count: usize) -> [u16; MOST_CELLS]
+    requires { (2 * count ≤ length bytes.now) × (count ≤ 6) }
+    ensures { take count result ≡ cells_in count bytes.now }
 {
-    let mut cells = [0; MOST_READS];
-    for k in 0..count {
-        cells[k] = read_cell(bytes, place + 2 * k);
+    let mut cells = [0; MOST_CELLS];
+    for (k, cell) in cells[..count].iter_mut().enumerate() {
+        *cell = read_cell(&bytes[2 * k..]);
     }
     cells
 }
 
 /// The record at the front of `rest`, which lies at `place` in the trace; none where nothing is left.
 pub(crate) fn read_front(rest: &[u8], place: usize) -> Result<Option<Front>, ReadFault>
-    ensures { pieces result ≡ read_at place rest.now }
+    ensures { result ≡ read_at place rest.now }
 {
     let Some(byte) = rest.first() else {
         return Ok(None);

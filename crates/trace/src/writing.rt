@@ -1,9 +1,9 @@
 //! Writing a record as bytes.
-ghost use Rattle.std.specs.Prelude.{◌≡◌, ◌+◌, ◌*◌, ◌≤◌, length};
+ghost use Rattle.std.specs.Prelude.{◌≡◌, ◌*◌, ◌≤◌, length};
 ghost use Rattle.records.specs.Instance.{Recordable};
 ghost use Rattle.records.specs.Meaning.{instance};
-ghost use Rattle.trace.specs.Layouts.{byte_of, fields};
-ghost use Rattle.trace.specs.Writing.{is_first, shortest_fields, shortest, cell_bytes, put, written_to, write_answer, Shortest, ReadsBack};
+ghost use Rattle.trace.specs.Layouts.{byte_of, fields, size_of};
+ghost use Rattle.trace.specs.Writing.{shortest_fields, shortest, cell_bytes, over, spelled, written_to, write_answer, Shortest, ReadsBack};
 
 use crate::fault::WriteFault;
 use crate::layout::Layout;
@@ -22,23 +22,18 @@ pub fn write_record(record: &Record, out: &mut [u8]) -> Result<usize, WriteFault
     if out.len() < size {
         return Err(WriteFault::NoRoom { size });
     }
-    let operator = [record.operator()];
-    let written = [record.written()];
-    let place = write_bytes(out, 0, &[layout.byte()]);
-    let place = write_bytes(out, place, &operator[0..usize::from(layout.operator)]);
-    let place = write_cells(out, place, &written[0..usize::from(layout.written)]);
-    write_cells(out, place, record.reads());
+    layout.write(record, out);
     Ok(size)
 }
 
 impl Layout {
     /// The layout of a record's shortest spelling.
     pub(crate) fn shortest(record: &Record) -> Layout
-        ensures layout { fields result ≡ shortest_fields (instance «record».now) }
-        ensures recordable { Recordable (instance «record».now) }
+        ensures layout { fields result ≡ shortest_fields «record».now }
+        ensures recordable { Recordable «record».now }
     {
         let operator = record.operator() != 0;
-        let written = !is_first(record.written(), record.reads());
+        let written = record.reads().first() != Some(&record.written());
         Layout {
             operator,
             written,
@@ -61,38 +56,32 @@ impl Layout {
         };
         u8::from(self.operator) + 2 * u8::from(self.written) + 4 * reads
     }
-}
 
-/// Whether a cell is the first of these.
-fn is_first(cell: u16, cells: &[u16]) -> bool
-    ensures { result ≡ is_first cell cells.now }
-{
-    match cells.first() {
-        Some(first) => cell == *first,
-        None => false,
+    /// Writes a record of so many reads, in this layout, at the front of `out`.
+    fn write(&self, record: &Record, out: &mut [u8])
+        requires reads { self.now.reads ≡ length «record».now.reads }
+        requires room { size_of (fields self.now) ≤ length out.old }
+        ensures { out.new ≡ over (spelled (fields self.now) «record».now) out.old }
+    {
+        out[0] = self.byte();
+        if self.operator {
+            out[1] = record.operator();
+        }
+        let first = self.first_cell();
+        if self.written {
+            write_cells(&mut out[first..], &[record.written()]);
+        }
+        let second = first + 2 * usize::from(self.written);
+        write_cells(&mut out[second..], record.reads());
     }
 }
 
-/// Writes bytes at a place, and answers the place after them.
-fn write_bytes(out: &mut [u8], place: usize, bytes: &[u8]) -> usize
-    requires { place + length bytes.now ≤ length out.old }
-    ensures end { result ≡ place + length bytes.now }
-    ensures after { out.new ≡ put place bytes.now out.old }
+/// Writes cells at the front of `out`, two bytes to a cell, the low byte first.
+fn write_cells(out: &mut [u8], cells: &[u16])
+    requires { 2 * length cells.now ≤ length out.old }
+    ensures { out.new ≡ over (cell_bytes cells.now) out.old }
 {
-    let end = place + bytes.len();
-    out[place..end].copy_from_slice(bytes);
-    end
-}
-
-/// Writes cells at a place, and answers the place after them.
-fn write_cells(out: &mut [u8], place: usize, cells: &[u16]) -> usize
-    requires { place + 2 * length cells.now ≤ length out.old }
-    ensures end { result ≡ place + 2 * length cells.now }
-    ensures after { out.new ≡ put place (cell_bytes cells.now) out.old }
-{
-    let mut end = place;
-    for cell in cells {
-        end = write_bytes(out, end, &cell.to_le_bytes());
+    for (k, cell) in cells.iter().enumerate() {
+        out[2 * k..2 * k + 2].copy_from_slice(&cell.to_le_bytes());
     }
-    end
 }

@@ -1,16 +1,14 @@
 use Rattle.std.proofs.Common.{Some, Ok, Err}
 use Rattle.std.proofs.lemmas.Result.{err_from_is_err_and}
-use Rattle.records.specs.Meaning.{instance}
 use Rattle.trace.proofs.Exact.{unambiguous}
-use Rattle.trace.proofs.Steps.{step_is}
+use Rattle.trace.proofs.Steps.{step_finds}
 use Rattle.trace.specs.Reader.{cursor}
 use Rattle.trace.proofs.reader.TraceReader.next_record.Goals as goal
 
 pub returns-in_err-front-clause-finds : goal.returns-in_err-front-clause-finds
 returns-in_err-front-clause-finds c =
     let p = err_from_is_err_and c.from_residual.result c.from_residual.ensures.1 in
-    let s = step_is (cursor c.args.self.now) (Err _) c.in_err-front.ensures in
-    rw (p.1, p.2) s.finds
+    rw (p.1, p.2) (step_finds (cursor c.args.self.now) (Err _) c.in_err-front.ensures)
 
 pub returns-in_err-front-clause-unambiguous : goal.returns-in_err-front-clause-unambiguous
 returns-in_err-front-clause-unambiguous c = unambiguous
@@ -20,9 +18,7 @@ returns-in_default-clause-unambiguous c = unambiguous
 
 pub returns-clause-finds : goal.returns-clause-finds
 returns-clause-finds c =
-    let x = c.in-Some.front in
-    let s = step_is (cursor c.args.self.now) (Ok (Some (record { meaning = instance x.found; size = x.size }))) (rw c.in-Some.is at c.in_ok-front.ensures) in
-    s.finds
+    step_finds (cursor c.args.self.now) (Ok (Some c.in-Some.front)) (rw c.in-Some.is at c.in_ok-front.ensures)
 
 pub returns-clause-unambiguous : goal.returns-clause-unambiguous
 returns-clause-unambiguous c = unambiguous
