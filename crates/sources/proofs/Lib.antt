@@ -1,4 +1,5 @@
 pub mod Totals
+pub mod Ranges
 pub mod Searches
 pub mod Items
 pub mod Writers

@@ -21,8 +21,8 @@ pub trait Counts: Source {
         ensures answer { result ≡ count_at (Self.Source.list self.now) position }
         ensures law { WriterExact }
     {
-        let record = self.record_at(position)?;
-        Some(self.earlier(record.written(), position))
+        self.record_at(position)
+            .map(|record| self.earlier(record.written(), position))
     }
 
     /// How many read slots hold `cell`, as the sum of its readers over all versions.
@@ -30,11 +30,9 @@ pub trait Counts: Source {
         ensures answer { result ≡ read_slots cell (Self.Source.list self.now) }
         ensures law { ReadersAddUp }
     {
-        let mut slots = 0;
-        for version in 0..=self.writes(cell) {
-            slots += self.readers(cell, version);
-        }
-        slots
+        (0..=self.writes(cell))
+            .map(|version| self.readers(cell, version))
+            .sum()
     }
 }
 

@@ -10,24 +10,21 @@ pub trait Parts: Source {
     fn operator_at(&self, position: u32) -> Option<u8>
         ensures { result ≡ operator_at (Self.Source.list self.now) position }
     {
-        let record = self.record_at(position)?;
-        Some(record.operator())
+        self.record_at(position).map(|record| record.operator())
     }
 
     /// The written cell.
     fn written_at(&self, position: u32) -> Option<u16>
         ensures { result ≡ written_at (Self.Source.list self.now) position }
     {
-        let record = self.record_at(position)?;
-        Some(record.written())
+        self.record_at(position).map(|record| record.written())
     }
 
     /// How many cells are read, at most five.
     fn reads_at(&self, position: u32) -> Option<usize>
         ensures { result ≡ reads_at (Self.Source.list self.now) position }
     {
-        let record = self.record_at(position)?;
-        Some(record.reads().len())
+        self.record_at(position).map(|record| record.reads().len())
     }
 
     /// The cell in a slot: slot 0 is the written cell, the reads follow from slot 1.
@@ -35,10 +32,10 @@ pub trait Parts: Source {
         ensures { result ≡ cell_at (Self.Source.list self.now) position slot }
     {
         let record = self.record_at(position)?;
-        if slot == 0 {
+        let Some(read) = slot.checked_sub(1) else {
             return Some(record.written());
-        }
-        record.reads().get(slot - 1).copied()
+        };
+        record.reads().get(read).copied()
     }
 }
 
