@@ -2,9 +2,9 @@
 use Rattle.std.specs.Prelude.{◌≡◌, ℕ, zero, suc, ◌+◌, ◌*◌, ◌/◌, ◌<◌, ◌≤◌, min, max, Bool, true, false, cond, List, ◌++◌, length, nat_lt, refl}
 use Rattle.std.proofs.Common.{arith, length-append}
 use Rattle.std.proofs.lemmas.Nat.{div-add-mod', mul-le}
-use Rattle.std.proofs.ByRecursion.{All-append, All-weaker}
+use Rattle.std.proofs.lemmas.List.Elements.{All-append, All-nil, All-weaker}
 use Rattle.std.proofs.lemmas.Bool.{ltb-false}
-use Rattle.std.specs.List.{AllByRecursion}
+use Rattle.std.specs.List.{All}
 use Rattle.records.specs.Instance.{Instance}
 use Rattle.sources.specs.Sound.{Fitting, Sound}
 use Rattle.layers.specs.Lists.{copies, joined, repeated, turns}
@@ -14,9 +14,9 @@ unfolding copies
 length_copies zero l = omega arith
 length_copies (suc n) l = omega (arith, length-append l (copies n l), length_copies n l)
 
-all_copies : (P : Instance → Type 0) (n : ℕ) (l : List Instance) → AllByRecursion P l → AllByRecursion P (copies n l)
+all_copies : (P : Instance → Type 0) (n : ℕ) (l : List Instance) → All P l → All P (copies n l)
 unfolding copies
-all_copies P zero l h = tt
+all_copies P zero l h = All-nil P
 all_copies P (suc n) l h = All-append P l (copies n l) h (all_copies P n l h)
 
 -- so many turns have at most 65,535 instances
@@ -55,9 +55,9 @@ joined_sound C D l m s t =
     short true e = s.short
     short false e = omega (arith, length-append l m, ltb-false 65535 (length l + length m) e)
 
-    first : AllByRecursion (Fitting (max C D)) l
+    first : All (Fitting (max C D)) l
     first = All-weaker (Fitting C) (Fitting (max C D)) (fits_more C (max C D) (omega arith)) l s.fitting
 
-    fit : (b : Bool) → AllByRecursion (Fitting (max C D)) (cond b l (l ++ m))
+    fit : (b : Bool) → All (Fitting (max C D)) (cond b l (l ++ m))
     fit true = first
     fit false = All-append (Fitting (max C D)) l m first (All-weaker (Fitting D) (Fitting (max C D)) (fits_more D (max C D) (omega arith)) m t.fitting)

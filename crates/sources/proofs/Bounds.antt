@@ -1,7 +1,7 @@
 -- No answer of a sound source is large.
-use Rattle.std.proofs.Common.{◌≡◌, ℕ, zero, suc, ◌+◌, ◌*◌, ◌<◌, ◌≤◌, Bool, true, false, cond, eqb, List, [], ◌∷◌, length, Some, arith}
+use Rattle.std.proofs.Common.{◌≡◌, ℕ, suc, ◌+◌, ◌*◌, ◌<◌, ◌≤◌, Bool, true, false, cond, eqb, List, length, get_or, Some, All, inl, inr, arith}
+use Rattle.std.proofs.lemmas.Option.{slice_get_cases, slice_get-get_or}
 use Rattle.std.proofs.lemmas.List.Sums.{count_by-le-length}
-use Rattle.std.specs.List.{AllByRecursion}
 use Rattle.records.specs.Instance.{Instance}
 use Rattle.sources.proofs.Readers.{readers_add_up, version_slots}
 use Rattle.sources.proofs.Searches.{least_passes}
@@ -11,10 +11,12 @@ use Rattle.sources.specs.Numbers.{total}
 use Rattle.sources.specs.Questions.{earlier, read_slots, readers, slots_at, writer, writes, writes_at}
 use Rattle.sources.specs.Sound.{Fitting, Sound}
 
-slots_few : (c C p : ℕ) (l : List Instance) → AllByRecursion (Fitting C) l → slots_at c l p ≤ 5
-slots_few c C p [] h = omega arith
-slots_few c C zero (i ∷ is) h = omega (arith, count_by-le-length (λ r. eqb r c) i.reads, h.0.recordable.few)
-slots_few c C (suc p) (i ∷ is) h = slots_few c C p is h.1
+slots_few : (c C p : ℕ) (l : List Instance) → All (Fitting C) l → slots_at c l p ≤ 5
+slots_few c C p l h =
+    elim (slice_get_cases l p).1 [
+      | inl (i, within, _, _) ↦ rw (slice_get-get_or l p i within) (omega (arith, count_by-le-length (λ r. eqb r c) (get_or l p i).reads, (h p i within).recordable.few))
+      | inr (_, none) ↦ rw none (omega arith)
+    ]
 
 if_few : (t : Bool) (n m : ℕ) → n ≤ m → cond t n 0 ≤ m
 if_few true n m h = h

@@ -1,5 +1,5 @@
 -- The questions to a list of instances. Positions count from 0.
-use Rattle.std.specs.Prelude.{ℕ, zero, suc, Bool, false, cond, ◌&&◌, List, length, Some, count_by, Option, ◌==◌, nat_eq}
+use Rattle.std.specs.Prelude.{ℕ, zero, suc, Bool, false, ◌==◌, ◌&&◌, if◌then◌else◌, List, length, Some, count_by, Option}
 use Rattle.std.specs.Option.{option_map, option_flatten, unwrap_or}
 use Rattle.std.specs.List.{slice_get}
 use Rattle.records.specs.Instance.{Instance}
@@ -28,11 +28,11 @@ cell_at l p slot = option_flatten (option_map (slot_of slot) (slice_get l p))
 
 -- does the instance at p write c
 abbrev pub writes_at : ℕ → List Instance → ℕ → Bool
-writes_at c l p = unwrap_or (option_map (λ (i : Instance). nat_eq i.written c) (slice_get l p)) false
+writes_at c l p = unwrap_or (option_map (λ (i : Instance). i.written == c) (slice_get l p)) false
 
 -- how many read slots of an instance hold c
 abbrev pub slots_of : ℕ → Instance → ℕ
-slots_of c i = count_by (λ r. nat_eq r c) i.reads
+slots_of c i = count_by (λ r. r == c) i.reads
 
 -- how many read slots of the instance at p hold c
 abbrev pub slots_at : ℕ → List Instance → ℕ → ℕ
@@ -40,7 +40,7 @@ slots_at c l p = unwrap_or (option_map (slots_of c) (slice_get l p)) 0
 
 -- how many of the first p instances write c
 unfoldable pub earlier : ℕ → ℕ → List Instance → ℕ
-earlier c p l = total (λ q. cond (writes_at c l q) 1 0) p
+earlier c p l = total (λ q. if writes_at c l q then 1 else 0) p
 
 -- how many writes of its cell come before the instance at p
 abbrev pub count_at : List Instance → ℕ → Option ℕ
@@ -56,7 +56,7 @@ writer c k l = least (λ p. writes_at c l p && earlier c p l == k) (length l)
 
 -- how many read slots hold c, over the instances before which exactly v instances write c
 unfoldable pub readers : ℕ → ℕ → List Instance → ℕ
-readers c v l = total (λ p. cond (earlier c p l == v) (slots_at c l p) 0) (length l)
+readers c v l = total (λ p. if earlier c p l == v then slots_at c l p else 0) (length l)
 
 -- how many read slots hold c
 unfoldable pub read_slots : ℕ → List Instance → ℕ
