@@ -4,7 +4,8 @@ use Rattle.std.proofs.Common.{arith, length-take}
 use Rattle.std.proofs.lemmas.List.{length-map}
 use Rattle.std.proofs.lemmas.Bool.{and_parts, false≢true, ltb-false, ltb-true, true≢false}
 use Rattle.std.specs.Option.{option_map}
-use Rattle.std.specs.List.{AllByRecursion}
+use Rattle.std.proofs.lemmas.List.Elements.{All-cons, All-nil}
+use Rattle.std.specs.List.{All}
 use Rattle.records.specs.Instance.{Instance}
 use Rattle.records.specs.Meaning.{row_instance}
 use Rattle.records.specs.declared.fault.RecordFault.TheVariants.{Operator, Reads}
@@ -18,9 +19,9 @@ abbrev pub rows_list : WrittenList → List Instance
 rows_list w = map row_instance w.rows.now
 
 -- cells that pass the test are below C
-below_all : (C : ℕ) (cs : List ℕ) → all_below C cs ≡ true → AllByRecursion (λ c. c < C) cs
-below_all C [] e = tt
-below_all C (c ∷ cs) e = let (a, b) = and_parts (nat_lt c C) (all_below C cs) e in (ltb-true c C a, below_all C cs b)
+below_all : (C : ℕ) (cs : List ℕ) → all_below C cs ≡ true → All (λ c. c < C) cs
+below_all C [] e = All-nil (λ c. c < C)
+below_all C (c ∷ cs) e = let (a, b) = and_parts (nat_lt c C) (all_below C cs) e in All-cons (λ c. c < C) c cs (ltb-true c C a) (below_all C cs b)
 
 -- what a row that fits passed
 pub record Passed (C : ℕ) (r : Row) : Type 0 where
@@ -55,9 +56,9 @@ fit_first true None e = (refl, refl)
 fit_first true (Some x) e = absurd (true≢false e)
 fit_first false o e = absurd (true≢false e)
 
-all_fit : (C : ℕ) (rs : List Row) → is_some (first_misfit C rs) ≡ false → AllByRecursion (Fitting C) (map row_instance rs)
-all_fit C [] e = tt
-all_fit C (r ∷ rs) e = let (a, b) = fit_first (row_fits C r) (first_misfit C rs) e in (fitting C r a, all_fit C rs b)
+all_fit : (C : ℕ) (rs : List Row) → is_some (first_misfit C rs) ≡ false → All (Fitting C) (map row_instance rs)
+all_fit C [] e = All-nil (Fitting C)
+all_fit C (r ∷ rs) e = let (a, b) = fit_first (row_fits C r) (first_misfit C rs) e in All-cons (Fitting C) (row_instance r) (map row_instance rs) (fitting C r a) (all_fit C rs b)
 
 pub rows_sound : (w : WrittenList) → Sound w.cells (rows_list w)
 rows_sound w =
