@@ -1,5 +1,5 @@
 -- The lists of the layers.
-use Rattle.std.specs.Prelude.{ℕ, zero, suc, ◌+◌, ◌/◌, min, cond, List, [], ◌++◌, length, nat_lt}
+use Rattle.std.specs.Prelude.{ℕ, zero, suc, ◌+◌, ◌/◌, min, if◌then◌else◌, List, [], ◌++◌, length, nat_le, nat_lt}
 use Rattle.records.specs.Instance.{Instance}
 use Rattle.sources.specs.Questions.{readers}
 
@@ -19,8 +19,8 @@ repeated n l = copies (turns n (length l)) l
 
 -- the readers of c at version v of the list, in turn q of r; none where there is no such turn
 abbrev pub in_turn : ℕ → ℕ → ℕ → ℕ → List Instance → ℕ
-in_turn r q c v l = cond (nat_lt q r) (readers c v l) 0
+in_turn r q c v l = if nat_lt q r then readers c v l else 0
 
 -- the list of After: one list and then another; the first alone, where both together exceed 65,535 instances
 abbrev pub joined : List Instance → List Instance → List Instance
-joined l m = cond (nat_lt 65535 (length l + length m)) l (l ++ m)
+joined l m = if nat_le (length l + length m) 65535 then l ++ m else l

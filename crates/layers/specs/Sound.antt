@@ -1,10 +1,9 @@
 -- The layers over sound sources are sound.
-use Rattle.std.specs.Prelude.{◌≡◌, ℕ, zero, suc, ◌+◌, ◌*◌, ◌/◌, ◌<◌, ◌≤◌, min, max, Bool, true, false, cond, List, ◌++◌, length, nat_lt, refl}
+use Rattle.std.specs.Prelude.{◌≡◌, ℕ, zero, suc, ◌+◌, ◌*◌, ◌/◌, ◌≤◌, min, max, List, ◌++◌, length, nat_le, All}
 use Rattle.std.proofs.Common.{arith, length-append}
 use Rattle.std.proofs.lemmas.Nat.{div-add-mod', mul-le}
-use Rattle.std.proofs.lemmas.List.Elements.{All-append, All-nil, All-weaker}
-use Rattle.std.proofs.lemmas.Bool.{ltb-false}
-use Rattle.std.specs.List.{All}
+use Rattle.std.proofs.lemmas.List.Elements.{All-append, All-nil}
+use Rattle.std.proofs.lemmas.Bool.{cond_both, leb-true}
 use Rattle.records.specs.Instance.{Instance}
 use Rattle.sources.specs.Sound.{Fitting, Sound}
 use Rattle.layers.specs.Lists.{copies, joined, repeated, turns}
@@ -33,31 +32,29 @@ repeated_sound n C l s =
       fitting = all_copies (Fitting C) (turns n (length l)) l s.fitting;
     }
 
--- what fits among few cells fits among more
-fits_more : (C D : ℕ) → C ≤ D → (i : Instance) → Fitting C i → Fitting D i
-fits_more C D h i f =
+-- what is sound among few cells is sound among more
+more_cells : (C D : ℕ) (l : List Instance) → C ≤ D → D ≤ 4096 → Sound C l → Sound D l
+more_cells C D l h few s =
     record {
-      recordable = f.recordable;
-      written_below = omega (arith, f.written_below);
-      reads_below = All-weaker (λ c. c < C) (λ c. c < D) (λ c b. omega arith) i.reads f.reads_below;
+      some_cells = omega (arith, s.some_cells);
+      few_cells = few;
+      short = s.short;
+      fitting = λ k d b. let f = s.fitting k d b in record {
+        recordable = f.recordable;
+        written_below = omega (arith, f.written_below);
+        reads_below = λ j e a. omega (arith, f.reads_below j e a);
+      };
     }
 
 pub joined_sound : (C D : ℕ) (l m : List Instance) → Sound C l → Sound D m → Sound (max C D) (joined l m)
 joined_sound C D l m s t =
-    record {
-      some_cells = omega (arith, s.some_cells);
-      few_cells = omega (arith, s.few_cells, t.few_cells);
-      short = short (nat_lt 65535 (length l + length m)) refl;
-      fitting = fit (nat_lt 65535 (length l + length m));
-    }
-  where
-    short : (b : Bool) → nat_lt 65535 (length l + length m) ≡ b → length (cond b l (l ++ m)) ≤ 65535
-    short true e = s.short
-    short false e = omega (arith, length-append l m, ltb-false 65535 (length l + length m) e)
-
-    first : All (Fitting (max C D)) l
-    first = All-weaker (Fitting C) (Fitting (max C D)) (fits_more C (max C D) (omega arith)) l s.fitting
-
-    fit : (b : Bool) → All (Fitting (max C D)) (cond b l (l ++ m))
-    fit true = first
-    fit false = All-append (Fitting (max C D)) l m first (All-weaker (Fitting D) (Fitting (max C D)) (fits_more D (max C D) (omega arith)) m t.fitting)
+    let first = more_cells C (max C D) l (omega arith) (omega (arith, s.few_cells, t.few_cells)) s in
+    let second = more_cells D (max C D) m (omega arith) (omega (arith, s.few_cells, t.few_cells)) t in
+    cond_both (nat_le (length l + length m) 65535) (l ++ m) l (Sound (max C D))
+    (λ fit. record {
+      some_cells = first.some_cells;
+      few_cells = first.few_cells;
+      short = omega (arith, length-append l m, leb-true (length l + length m) 65535 fit);
+      fitting = All-append (Fitting (max C D)) l m first.fitting second.fitting;
+    })
+    (λ _. first)

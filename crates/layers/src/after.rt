@@ -1,5 +1,5 @@
 //! After: one source's list, then another's.
-ghost use Rattle.std.specs.Prelude.{◌≡◌, ◌+◌, max, not, length, nat_lt};
+ghost use Rattle.std.specs.Prelude.{◌≡◌, ◌+◌, ◌≤◌, ◌↔◌, IsTrue, max, length};
 ghost use Rattle.layers.specs.Lists.{joined};
 ghost use Rattle.layers.specs.Sound.{joined_sound};
 
@@ -25,7 +25,7 @@ impl<A, B> After<A, B> {
 impl<A: Source, B: Source> After<A, B> {
     /// Do both lists fit, one after the other?
     fn fits(&self) -> bool
-        ensures { result ≡ not (nat_lt 65535 (length (A.Source.list self.now.first) + length (B.Source.list self.now.second))) }
+        ensures { IsTrue result ↔ (length (A.Source.list self.now.first) + length (B.Source.list self.now.second) ≤ 65535) }
     {
         self.first.length() + self.second.length() <= MOST_INSTANCES
     }
@@ -78,10 +78,7 @@ impl<A: Source, B: Source> Source for After<A, B> {
     fn earlier(&self, cell: u16, position: u32) -> u32 {
         let length = self.first.length();
         let earlier = self.first.earlier(cell, position);
-        if position < length {
-            return earlier;
-        }
-        if !self.fits() {
+        if position < length || !self.fits() {
             return earlier;
         }
         earlier + self.second.earlier(cell, position - length)
@@ -90,10 +87,7 @@ impl<A: Source, B: Source> Source for After<A, B> {
     fn readers(&self, cell: u16, version: u32) -> u32 {
         let readers = self.first.readers(cell, version);
         let writes = self.first.writes(cell);
-        if version < writes {
-            return readers;
-        }
-        if !self.fits() {
+        if version < writes || !self.fits() {
             return readers;
         }
         readers + self.second.readers(cell, version - writes)

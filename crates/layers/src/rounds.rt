@@ -27,11 +27,9 @@ impl<S: Source> Rounds<S> {
     fn turns(&self) -> u32
         ensures { result ≡ turns self.now.times (length (S.Source.list self.now.below)) }
     {
-        let length = self.below.length();
-        if length == 0 {
-            return 0;
-        }
-        u32::from(self.times).min(MOST_INSTANCES / length)
+        MOST_INSTANCES
+            .checked_div(self.below.length())
+            .map_or(0, |most| u32::from(self.times).min(most))
     }
 
     /// The readers of `cell` at this version of the list below, in one turn; none where there is no such turn.
@@ -100,10 +98,7 @@ impl<S: Source> Source for Rounds<S> {
         }
         let turn = version / writes;
         let readers = self.readers_in(turn, cell, version % writes);
-        if turn == 0 {
-            return readers;
-        }
-        if version % writes > 0 {
+        if turn == 0 || version % writes > 0 {
             return readers;
         }
         // After its last write, the turn before reads this version too.

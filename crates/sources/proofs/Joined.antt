@@ -24,6 +24,12 @@ nth_right_at (x ∷ l) m (suc p) q e = nth_right_at l m p q (omega arith)
 pub nth_right : {X : Type 0} (l m : List X) (q : ℕ) → slice_get (l ++ m) (length l + q) ≡ slice_get m q
 nth_right l m q = nth_right_at l m (length l + q) q refl
 
+-- a position past the first list
+pub nth_after : {X : Type 0} (p : ℕ) (l m : List X) → length l ≤ p → slice_get (l ++ m) p ≡ slice_get m (p - length l)
+nth_after p l m h =
+    let at : p ≡ length l + (p - length l) = omega arith in
+    ap (slice_get (l ++ m)) at ∙ nth_right l m (p - length l)
+
 writes_left : (c p : ℕ) (l m : List Instance) → p < length l → writes_at c (l ++ m) p ≡ writes_at c l p
 writes_left c p l m h = ap (λ (o : Option Instance). unwrap_or (option_map (λ (i : Instance). eqb i.written c) o) false) (nth_left l m p h)
 
@@ -52,6 +58,11 @@ earlier_right c q l m = split ∙ omega (arith, earlier_left c (length l) l m (o
         ∙ ap (λ (n : ℕ). total (λ k. cond (writes_at c (l ++ m) k) 1 0) (length l) + n)
         (total_same (λ k. cond (writes_at c (l ++ m) (length l + k)) 1 0) (λ k. cond (writes_at c m k) 1 0) q
         (λ k b. ap {B = ℕ} (λ (t : Bool). cond t 1 0) (writes_right c k l m))))
+
+pub earlier_after : (c p : ℕ) (l m : List Instance) → length l ≤ p → earlier c p (l ++ m) ≡ writes c l + earlier c (p - length l) m
+earlier_after c p l m h =
+    let at : p ≡ length l + (p - length l) = omega arith in
+    ap (λ (k : ℕ). earlier c k (l ++ m)) at ∙ earlier_right c (p - length l) l m
 
 pub writes_append : (c : ℕ) (l m : List Instance) → writes c (l ++ m) ≡ writes c l + writes c m
 writes_append c l m = ap (λ (n : ℕ). earlier c n (l ++ m)) (length-append l m) ∙ earlier_right c (length m) l m

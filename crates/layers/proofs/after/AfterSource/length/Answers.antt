@@ -1,9 +1,15 @@
-use Rattle.std.proofs.Common.{arith}
-use Rattle.layers.proofs.Afters.{length_both}
+use Rattle.std.proofs.Common.{length-append}
+use Rattle.layers.proofs.Afters.{tested}
 use Rattle.layers.proofs.after.AfterSource.length.Goals as goal
+
+pub returns-then-not-fits : goal.returns-then-not-fits
+returns-then-not-fits g c =
+    let l = g.A.Source.list c.args.self.now.first in
+    let m = g.B.Source.list c.args.self.now.second in
+    cc (tested l m c.if-not-fits.ensures)
 
 pub returns : goal.returns
 returns g c =
     let l = g.A.Source.list c.args.self.now.first in
     let m = g.B.Source.list c.args.self.now.second in
-    omega (arith, c.length-length.ensures, c.length.ensures, length_both l m c.if-not-fits.ensures)
+    cc (tested l m c.if-not-fits.ensures, length-append l m)
