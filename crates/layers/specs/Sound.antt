@@ -23,8 +23,8 @@ turns_short : (n k : ℕ) → turns n k * k ≤ 65535
 turns_short n zero = omega arith
 turns_short n (suc m) = omega (arith, div-add-mod' 65535 (suc m), mul-le (min n (65535 / suc m)) (suc m) (65535 / suc m) (suc m) (omega arith) (omega arith))
 
-pub repeated_sound : (n C : ℕ) (l : List Instance) → Sound C l → Sound C (repeated n l)
-repeated_sound n C l s =
+pub repeated_sound : (n : ℕ) {C : ℕ} {l : List Instance} → Sound C l → Sound C (repeated n l)
+repeated_sound n {C} {l} s =
     record {
       some_cells = s.some_cells;
       few_cells = s.few_cells;
@@ -46,8 +46,8 @@ more_cells C D l h few s =
       };
     }
 
-pub joined_sound : (C D : ℕ) (l m : List Instance) → Sound C l → Sound D m → Sound (max C D) (joined l m)
-joined_sound C D l m s t =
+pub joined_sound : {C D : ℕ} {l m : List Instance} → Sound C l → Sound D m → Sound (max C D) (joined l m)
+joined_sound {C} {D} {l} {m} s t =
     let first = more_cells C (max C D) l (omega arith) (omega (arith, s.few_cells, t.few_cells)) s in
     let second = more_cells D (max C D) m (omega arith) (omega (arith, s.few_cells, t.few_cells)) t in
     cond_both (nat_le (length l + length m) 65535) (l ++ m) l (Sound (max C D))

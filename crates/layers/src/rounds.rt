@@ -1,10 +1,11 @@
 //! Rounds: a source's list, several times over.
-ghost use Rattle.std.specs.Prelude.{◌≡◌, length};
+ghost use Rattle.std.specs.Prelude.{◌≡◌, ℕ, length};
 ghost use Rattle.layers.specs.Lists.{in_turn, repeated, turns};
 ghost use Rattle.layers.specs.Sound.{repeated_sound};
 
 use records::Record;
 use sources::{Counts, MOST_INSTANCES, Source};
+use std::marker::Model;
 
 /// The list below, `times` times over, or as often as it goes into 65,535 instances.
 #[derive(Clone, Copy)]
@@ -13,10 +14,18 @@ pub struct Rounds<S> {
     times: u16,
 }
 
+impl<S> Model for Rounds<S> {
+    ghost Value = { S × ℕ };
+
+    ghost view = { λ x. (x.below, x.times) };
+
+    ghost inverse = { λ v. record { below = v.0; times = v.1 } };
+}
+
 impl<S> Rounds<S> {
     /// Repeats the list of `below`.
     pub fn new(below: S, times: u16) -> Rounds<S>
-        ensures { result ≡ record { below = below; times = times } }
+        ensures { result ≡ (below, times) }
     {
         Rounds { below, times }
     }
@@ -25,7 +34,7 @@ impl<S> Rounds<S> {
 impl<S: Source> Rounds<S> {
     /// How often the list below is repeated; an empty list is not.
     fn turns(&self) -> u32
-        ensures { result ≡ turns self.now.times (length (S.Source.list self.now.below)) }
+        ensures { result ≡ turns self.now.1 (length (S.Source.list self.now.0)) }
     {
         MOST_INSTANCES
             .checked_div(self.below.length())
@@ -34,7 +43,9 @@ impl<S: Source> Rounds<S> {
 
     /// The readers of `cell` at this version of the list below, in one turn; none where there is no such turn.
     fn readers_in(&self, turn: u32, cell: u16, version: u32) -> u32
-        ensures { result ≡ in_turn (turns self.now.times (length (S.Source.list self.now.below))) turn cell version (S.Source.list self.now.below) }
+        ensures { result
+            ≡ in_turn (turns self.now.1 (length (S.Source.list self.now.0))) turn
+            cell version (S.Source.list self.now.0) }
     {
         if turn >= self.turns() {
             return 0;
@@ -45,11 +56,11 @@ impl<S: Source> Rounds<S> {
 
 /// Every answer comes by arithmetic from a few answers below.
 impl<S: Source> Source for Rounds<S> {
-    ghost size = { λ x. S.Source.size x.below };
+    ghost size = { λ x. S.Source.size x.0 };
 
-    ghost list = { λ x. repeated x.times (S.Source.list x.below) };
+    ghost list = { λ x. repeated x.1 (S.Source.list x.0) };
 
-    ghost sound = { λ x. repeated_sound x.times (S.Source.size x.below) (S.Source.list x.below) (S.Source.sound x.below) };
+    ghost sound = { λ x. repeated_sound x.1 (S.Source.sound x.0) };
 
     fn cells(&self) -> u16 {
         self.below.cells()

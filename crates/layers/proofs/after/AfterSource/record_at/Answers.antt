@@ -7,19 +7,19 @@ use Rattle.layers.proofs.after.AfterSource.record_at.Goals as goal
 
 pub returns-then-position-length : goal.returns-then-position-length
 returns-then-position-length g c =
-    let l = g.A.Source.list c.args.self.now.first in
-    let m = g.B.Source.list c.args.self.now.second in
+    let l = g.A.Source.list c.self.inside.first in
+    let m = g.B.Source.list c.self.inside.second in
     let p = c.args.position in
-    cc (either (λ j. slice_get j p ≡ slice_get l p) l m (nth_left l m p (omega arith)) refl)
+    rw (← c.self.view_is) (cc (either (λ j. slice_get j p ≡ slice_get l p) l m (nth_left l m p (omega arith)) refl))
 
 pub returns-then-not-fits : goal.returns-then-not-fits
 returns-then-not-fits g c =
-    let l = g.A.Source.list c.args.self.now.first in
-    let m = g.B.Source.list c.args.self.now.second in
-    cc (tested l m c.if-not-fits.ensures, slice_get_past l c.args.position (omega arith))
+    let l = g.A.Source.list c.self.inside.first in
+    let m = g.B.Source.list c.self.inside.second in
+    rw (← c.self.view_is) (cc (tested l m (rw (← c.self.view_is) at c.if-not-fits.ensures), slice_get_past l c.args.position (omega arith)))
 
 pub returns : goal.returns
 returns g c =
-    let l = g.A.Source.list c.args.self.now.first in
-    let m = g.B.Source.list c.args.self.now.second in
-    cc (tested l m c.if-not-fits.ensures, nth_after c.args.position l m (omega arith))
+    let l = g.A.Source.list c.self.inside.first in
+    let m = g.B.Source.list c.self.inside.second in
+    rw (← c.self.view_is) (cc (tested l m (rw (← c.self.view_is) at c.if-not-fits.ensures), nth_after c.args.position l m (omega arith)))

@@ -6,19 +6,19 @@ use Rattle.layers.specs.Lists.{repeated, turns}
 use Rattle.layers.proofs.rounds.RoundsSource.record_at.Goals as goal
 
 pub returns-then-position-length : goal.returns-then-position-length
-returns-then-position-length g c =
-    let l = g.S.Source.list c.args.self.now.below in
-    sym (slice_get_past (repeated c.args.self.now.times l) c.args.position (omega arith))
+returns-then-position-length g c = sym (slice_get_past (repeated c.args.self.now.1 (g.S.Source.list c.args.self.now.0)) c.args.position (omega arith))
 
 pub nonzero_rem-position : goal.nonzero_rem-position
 nonzero_rem-position g c =
-    let l = g.S.Source.list c.args.self.now.below in
+    let l = g.S.Source.list c.self.inside.below in
+    let all = rw (← c.self.view_is) at c.length.ensures in
     elim (cases_lt 0 c.length-2.result) [
       | inl some ↦ some
-      | inr none ↦ absurd (omega (arith, none_below (turns c.args.self.now.times (length l)) l (omega arith)))
+      | inr none ↦ absurd (omega (arith, none_below (turns c.self.inside.times (length l)) l (omega arith)))
     ]
 
 pub returns : goal.returns
 returns g c =
-    let l = g.S.Source.list c.args.self.now.below in
-    cc (nth_turn (turns c.args.self.now.times (length l)) c.args.position l (omega arith))
+    let l = g.S.Source.list c.self.inside.below in
+    let all = rw (← c.self.view_is) at c.length.ensures in
+    rw (← c.self.view_is) (cc (nth_turn (turns c.self.inside.times (length l)) c.args.position l (omega arith)))

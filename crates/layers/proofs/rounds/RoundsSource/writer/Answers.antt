@@ -9,32 +9,31 @@ use Rattle.layers.proofs.rounds.RoundsSource.writer.Goals as goal
 
 pub returns-then-writes-eq0 : goal.returns-then-writes-eq0
 returns-then-writes-eq0 g c =
-    let l = g.S.Source.list c.args.self.now.below in
-    sym (writer_unwritten c.args.cell (turns c.args.self.now.times (length l)) c.args.count l (sym c.writes-writes.ensures.answer ∙ c.if-writes-eq0.true))
+    let l = g.S.Source.list c.self.inside.below in
+    rw (← c.self.view_is) (sym (writer_unwritten c.args.cell (turns c.self.inside.times (length l)) c.args.count l (sym c.writes-writes.ensures.answer ∙ c.if-writes-eq0.true)))
 
 pub returns-then-turn-turns : goal.returns-then-turn-turns
 returns-then-turn-turns g c =
-    let l = g.S.Source.list c.args.self.now.below in
-    sym (writer_beyond c.args.cell (turns c.args.self.now.times (length l)) c.args.count l (rw (← c.writes-writes.ensures.answer) (omega arith)))
+    let l = g.S.Source.list c.self.inside.below in
+    rw (← c.self.view_is) (sym (writer_beyond c.args.cell (turns c.self.inside.times (length l)) c.args.count l (rw (← c.writes-writes.ensures.answer) (omega (arith, rw (← c.self.view_is) at c.turns.ensures)))))
 
 pub returns-in_err-position : goal.returns-in_err-position
 returns-in_err-position g c =
-    let l = g.S.Source.list c.args.self.now.below in
+    let l = g.S.Source.list c.self.inside.below in
     let w = c.writes-writes.ensures.answer in
-    rw (writer_turn c.args.cell (turns c.args.self.now.times (length l)) c.args.count l (omega arith) (rw (← w) (omega arith)), ← w, ← c.in_err-position.ensures) (cc)
+    rw (← c.self.view_is, writer_turn c.args.cell (turns c.self.inside.times (length l)) c.args.count l (omega arith) (rw (← w) (omega (arith, rw (← c.self.view_is) at c.turns.ensures))), ← w, ← c.in_err-position.ensures) (cc)
 
 -- the answer below, moved by whole turns
-found : (g : Over) (c : goal.In_ok-position g) → Some (c.args.count / c.writes-writes.result * c.length-length.result + c.in_ok-position.position) ≡ writer c.args.cell c.args.count (repeated c.args.self.now.times (g.S.Source.list c.args.self.now.below))
+found : (g : Over) (c : goal.In_ok-position g) → Some (c.args.count / c.writes-writes.result * c.length-length.result + c.in_ok-position.position) ≡ writer c.args.cell c.args.count (repeated c.args.self.now.1 (g.S.Source.list c.args.self.now.0))
 found g c =
-    let l = g.S.Source.list c.args.self.now.below in
+    let l = g.S.Source.list c.self.inside.below in
     let w = c.writes-writes.ensures.answer in
-    rw (writer_turn c.args.cell (turns c.args.self.now.times (length l)) c.args.count l (omega arith) (rw (← w) (omega arith)), ← w, ← c.in_ok-position.ensures, ← c.length-length.ensures) refl
+    rw (← c.self.view_is, writer_turn c.args.cell (turns c.self.inside.times (length l)) c.args.count l (omega arith) (rw (← w) (omega (arith, rw (← c.self.view_is) at c.turns.ensures))), ← w, ← c.in_ok-position.ensures, ← c.length-length.ensures) refl
 
 pub overflow_add-result : goal.overflow_add-result
 overflow_add-result g c =
-    let s = c.args.self.now.below in
-    let l = g.S.Source.list s in
-    omega (arith, (repeated_sound c.args.self.now.times _ l (g.S.Source.sound s)).short, writer_few c.args.cell c.args.count _ (repeated c.args.self.now.times l) (sym (found g c)))
+    let v = c.args.self.now in
+    omega (arith, (repeated_sound v.1 (g.S.Source.sound v.0)).short, writer_few c.args.cell c.args.count _ (repeated v.1 (g.S.Source.list v.0)) (sym (found g c)))
 
 pub returns : goal.returns
 returns g c = found g c
