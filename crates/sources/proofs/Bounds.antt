@@ -1,12 +1,13 @@
 -- No answer of a sound source is large.
-use Rattle.std.proofs.Common.{◌≡◌, ℕ, suc, ◌+◌, ◌*◌, ◌<◌, ◌≤◌, Bool, true, false, cond, eqb, List, length, get_or, Some, All, inl, inr, arith}
+use Rattle.std.proofs.Common.{◌≡◌, ℕ, suc, ◌+◌, ◌*◌, ◌<◌, ◌≤◌, Bool, cond, eqb, List, length, get_or, Some, All, inl, inr, arith}
 use Rattle.std.proofs.lemmas.Option.{slice_get_cases, slice_get-get_or}
+use Rattle.std.proofs.lemmas.Bool.{cond_both}
 use Rattle.std.proofs.lemmas.List.Sums.{count_by-le-length}
 use Rattle.records.specs.Instance.{Instance}
 use Rattle.sources.proofs.Readers.{readers_add_up, version_slots}
 use Rattle.sources.proofs.Searches.{least_passes}
 use Rattle.sources.proofs.Totals.{total_at_most, total_grows}
-use Rattle.sources.proofs.Writers.{earlier_writes, is_writer}
+use Rattle.sources.proofs.Writers.{earlier_writes, is_writer, wrote}
 use Rattle.sources.specs.Numbers.{total}
 use Rattle.sources.specs.Questions.{earlier, read_slots, readers, slots_at, writer, writes, writes_at}
 use Rattle.sources.specs.Sound.{Fitting, Sound}
@@ -19,8 +20,7 @@ slots_few c C p l h =
     ]
 
 if_few : (t : Bool) (n m : ℕ) → n ≤ m → cond t n 0 ≤ m
-if_few true n m h = h
-if_few false n m h = omega arith
+if_few t n m h = cond_both t n 0 (λ x. x ≤ m) (λ _. h) (λ _. omega arith)
 
 pub readers_few : (c v C : ℕ) (l : List Instance) → Sound C l → readers c v l ≤ 5 * 65535
 unfolding readers
@@ -37,7 +37,7 @@ versions_few c n C l s = omega (arith, s.short, versions_within c n l, total_at_
 
 writes_few : (c : ℕ) (l : List Instance) → writes c l ≤ length l
 unfolding earlier
-writes_few c l = omega (arith, total_at_most (λ q. cond (writes_at c l q) 1 0) 1 (length l) (λ p b. if_few (writes_at c l p) 1 1 (omega arith)))
+writes_few c l = omega (arith, total_at_most (wrote c l) 1 (length l) (λ p b. if_few (writes_at c l p) 1 1 (omega arith)))
 
 pub earlier_few : (c p : ℕ) (l : List Instance) → earlier c p l ≤ length l
 earlier_few c p l = omega (arith, writes_few c l, earlier_writes c p l)

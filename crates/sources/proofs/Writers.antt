@@ -1,5 +1,5 @@
 -- The writer of a cell at a count, and the earlier writes.
-use Rattle.std.proofs.Common.{◌≡◌, ℕ, zero, suc, ◌+◌, ◌-◌, ◌<◌, ◌≤◌, Bool, true, false, cond, ◌&&◌, eqb, ltb, List, length, is_some, Some, None, Option, unwrap_or, sym, refl, ap, ◌∙◌, inl, inr, arith}
+use Rattle.std.proofs.Common.{◌≡◌, ℕ, zero, suc, ◌+◌, ◌-◌, ◌<◌, ◌≤◌, Bool, true, false, cond, if◌then◌else◌, ◌&&◌, eqb, ltb, List, length, is_some, Some, None, Option, unwrap_or, sym, refl, ap, ◌∙◌, inl, inr, arith}
 use Rattle.std.proofs.lemmas.Option.{slice_get_past}
 use Rattle.std.proofs.lemmas.Bool.{and_parts, cases_eq, cases_lt, cases_order, eq-eqb, eqb-true, false≢true, le-ltb, lt-ltb, ltb-false, ltb-true, ne_eqb}
 use Rattle.std.specs.Option.{option_map, option_or}
@@ -12,12 +12,16 @@ use Rattle.sources.specs.Laws.{WriterCounted, WriterExact}
 use Rattle.sources.specs.Numbers.{least, total}
 use Rattle.sources.specs.Questions.{earlier, writer, writes, writes_at}
 
+-- one where the instance at p writes c
+abbrev pub wrote : ℕ → List Instance → ℕ → ℕ
+wrote c l p = if writes_at c l p then 1 else 0
+
 -- does the instance at p write c after exactly k earlier ones wrote c
 abbrev pub is_writer : ℕ → ℕ → List Instance → ℕ → Bool
 is_writer c k l p = writes_at c l p && eqb (earlier c p l) k
 
 -- the earlier writes grow by one past each writer
-pub earlier_next : (c p : ℕ) (l : List Instance) → earlier c (suc p) l ≡ earlier c p l + cond (writes_at c l p) 1 0
+pub earlier_next : (c p : ℕ) (l : List Instance) → earlier c (suc p) l ≡ earlier c p l + wrote c l p
 unfolding earlier total
 earlier_next c p l = refl
 
@@ -27,18 +31,22 @@ earlier_none c l = refl
 
 earlier_grows : (c p q : ℕ) (l : List Instance) → p ≤ q → earlier c p l ≤ earlier c q l
 unfolding earlier
-earlier_grows c p q l h = total_grows (λ q. cond (writes_at c l q) 1 0) p q h
+earlier_grows c p q l h = total_grows (wrote c l) p q h
 
 -- past the end nothing is written
 past_none : (c p : ℕ) (l : List Instance) → length l ≤ p → writes_at c l p ≡ false
-past_none c p l h = ap (λ (o : Option Instance). unwrap_or (option_map (λ (i : Instance). eqb i.written c) o) false) (slice_get_past l p h)
+past_none c p l h = rw (slice_get_past l p h) refl
 
 pub earlier_past : (c p : ℕ) (l : List Instance) → length l ≤ p → earlier c p l ≡ writes c l
 unfolding earlier
 earlier_past c p l h =
-    let sum : p ≡ length l + (p - length l) = omega arith in
-    let none = total_none (λ k. cond (writes_at c l (length l + k)) 1 0) (p - length l) (λ k b. ap (λ (t : Bool). cond t 1 0) (past_none c (length l + k) l (omega arith))) in
-    ap (total (λ q. cond (writes_at c l q) 1 0)) sum ∙ omega (arith, total_split (λ q. cond (writes_at c l q) 1 0) (length l) (p - length l), none)
+    let sum : length l + (p - length l) ≡ p = omega arith in
+    omega (
+      arith,
+      ap (total (wrote c l)) sum,
+      total_split (wrote c l) (length l) (p - length l),
+      total_none (λ k. wrote c l (length l + k)) (p - length l) (λ k b. rw (past_none c (length l + k) l (omega arith)) refl),
+    )
 
 pub earlier_writes : (c p : ℕ) (l : List Instance) → earlier c p l ≤ writes c l
 earlier_writes c p l =
@@ -92,7 +100,7 @@ writes_part c None e = let z : ◌≡◌ {A = ℕ} 0 1 = cc in absurd (omega ari
 
 -- an earlier writer of c has fewer before it
 writer_before : (c p q : ℕ) (l : List Instance) → writes_at c l q ≡ true → q < p → earlier c q l < earlier c p l
-writer_before c p q l w h = omega (arith, earlier_next c q l, ap {B = ℕ} (λ (t : Bool). cond t 1 0) w, earlier_grows c (suc q) p l (omega arith))
+writer_before c p q l w h = omega (arith, earlier_next c q l, ap {B = ℕ} (λ (t : Bool). if t then 1 else 0) w, earlier_grows c (suc q) p l (omega arith))
 
 same_writer : (c p q : ℕ) (l : List Instance) → writes_at c l p ≡ true → writes_at c l q ≡ true → earlier c p l ≡ earlier c q l → q ≡ p
 same_writer c p q l v w e =
