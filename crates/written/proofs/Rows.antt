@@ -2,7 +2,7 @@
 use Rattle.std.proofs.Common.{◌≡◌, ℕ, zero, suc, ◌+◌, ◌<◌, ◌≤◌, min, Bool, true, false, cond, ◌&&◌, eqb, ltb, List, [], ◌∷◌, map, length, get_or, take, is_some, Some, None, Ok, Err, Option, Result, unwrap_or, sym, refl, ap, ◌∙◌, inl, inr, add-zero, add-one, arith}
 use Rattle.std.proofs.lemmas.List.{length-map}
 use Rattle.std.proofs.lemmas.List.{length-take-le, take_all, take-map}
-use Rattle.std.proofs.lemmas.Option.{slice_get-get_or}
+use Rattle.std.proofs.lemmas.Option.{slice_get-get_or, slice_get-map}
 use Rattle.std.proofs.lemmas.Bool.{cases_lt, eq-eqb, le-ltb, lt-ltb, ne_eqb}
 use Rattle.std.specs.Option.{option_map}
 use Rattle.std.specs.Result.{result_ok}
@@ -14,7 +14,7 @@ use Rattle.records.specs.declared.fault.RecordFault.{RecordFault}
 use Rattle.records.specs.declared.fault.RecordFault.TheVariants.{Operator, Reads}
 use Rattle.records.specs.declared.record.Record.{Record}
 use Rattle.records.specs.declared.row.Row.{Row}
-use Rattle.sources.proofs.Items.{mapped_twice, nth_map}
+use Rattle.sources.proofs.Items.{mapped_twice}
 use Rattle.sources.proofs.Readers.{version_slots}
 use Rattle.sources.proofs.Totals.{total_more, total_same}
 use Rattle.sources.proofs.Writers.{earlier_next, earlier_past}
@@ -44,7 +44,7 @@ misfit_no C n r rs e = ap (λ (t : Bool). moved n (cond t (option_map suc (first
 
 -- the instance that the row at p means
 pub row_at : (rows : List Row) (p : ℕ) (d : Row) → p < length rows → slice_get (map row_instance rows) p ≡ Some (row_instance (get_or rows p d))
-row_at rows p d h = nth_map row_instance rows p ∙ ap (option_map row_instance) (slice_get-get_or rows p d h)
+row_at rows p d h = slice_get-map row_instance rows p ∙ ap (option_map row_instance) (slice_get-get_or rows p d h)
 
 pub row_writes : (c : ℕ) (rows : List Row) (p : ℕ) (d : Row) → p < length rows → writes_at c (map row_instance rows) p ≡ eqb (get_or rows p d).written c
 row_writes c rows p d h = ap (λ (o : Option Instance). unwrap_or (option_map (λ (i : Instance). eqb i.written c) o) false) (row_at rows p d h)

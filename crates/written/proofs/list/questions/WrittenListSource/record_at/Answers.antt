@@ -1,8 +1,9 @@
 use Rattle.std.proofs.Common.{sym, ap, ◌∙◌}
+use Rattle.std.proofs.lemmas.Option.{slice_get-map}
 use Rattle.std.specs.Option.{option_map}
 use Rattle.records.specs.Making.{result_map}
 use Rattle.records.specs.Meaning.{instance, row_instance}
-use Rattle.sources.proofs.Items.{item_nth, nth_map}
+use Rattle.sources.proofs.Items.{item_nth}
 use Rattle.written.proofs.Rows.{all_rows_fit, fits_judged, ok_meant}
 use Rattle.written.proofs.list.questions.WrittenListSource.record_at.Goals as goal
 
@@ -10,7 +11,7 @@ pub returns-in_err-row : goal.returns-in_err-row
 returns-in_err-row c =
     let rows = c.args.self.now.rows.now in
     let none = sym (item_nth rows c.args.position c.get.result c.get.ensures.lookup) ∙ ap (option_map (λ x. x.now)) c.in_err-row.was in
-    ap (option_map instance) c.from_residual.ensures ∙ sym (nth_map row_instance rows c.args.position ∙ ap (option_map row_instance) none)
+    ap (option_map instance) c.from_residual.ensures ∙ sym (slice_get-map row_instance rows c.args.position ∙ ap (option_map row_instance) none)
 
 pub returns : goal.returns
 returns c =
@@ -20,4 +21,4 @@ returns c =
     let fits = all_rows_fit c.args.self.now.cells rows c.args.position row c.args.self.now.fit found in
     ap (option_map instance) c.ok.ensures.value
     ∙ (ok_meant c.try_from.result (row_instance row) (ap (result_map instance) (c.try_from.ensures ∙ fits_judged c.args.self.now.cells row fits))
-    ∙ sym (nth_map row_instance rows c.args.position ∙ ap (option_map row_instance) found))
+    ∙ sym (slice_get-map row_instance rows c.args.position ∙ ap (option_map row_instance) found))
