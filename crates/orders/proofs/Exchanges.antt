@@ -1,10 +1,11 @@
 -- Exchanging two neighbours of an order.
 use Rattle.std.proofs.Common.{◌≡◌, ℕ, zero, suc, ◌+◌, ◌<◌, ◌≤◌, eqb, ◌≢◌, ◌⊎◌, List, [], ◌∷◌, ◌++◌, length, Some, sym, refl, ap, ◌∙◌, subst₂, inl, inr, arith, length-append}
+use Rattle.std.proofs.lemmas.Option.{slice_get_within}
 use Rattle.std.proofs.lemmas.List.{append_assoc}
 use Rattle.std.proofs.lemmas.Bool.{cases_eq, cond-false, cond-true, eq-eqb, ne_eqb}
 use Rattle.std.specs.List.{Contains, slice_get}
 use Rattle.records.specs.Instance.{Instance}
-use Rattle.sources.proofs.Items.{nth_below, nth_there}
+use Rattle.sources.proofs.Items.{nth_there}
 use Rattle.sources.proofs.Joined.{nth_right}
 use Rattle.sources.specs.Questions.{earlier, writer}
 use Rattle.orders.proofs.Cells.{all_counted, count, count_behind, has_counted}
@@ -64,7 +65,7 @@ swap_shows (z ∷ a) b x y (suc j) = swap_shows a b x y j
 exchanged : (x y : Instance) → (Conflict x y → ⊥) → (a b : List Instance) → Match (a ++ x ∷ y ∷ b) (a ++ y ∷ x ∷ b) (swap (length a))
 exchanged x y free a b = record {
   same_length = omega (arith, length-append a (x ∷ y ∷ b), length-append a (y ∷ x ∷ b));
-  in_range = λ i h. let (z, e) = nth_there (a ++ y ∷ x ∷ b) i h in nth_below (a ++ x ∷ y ∷ b) (swap (length a) i) z (swap_shows a b x y i ∙ e);
+  in_range = λ i h. let (z, e) = nth_there (a ++ y ∷ x ∷ b) i h in slice_get_within (a ++ x ∷ y ∷ b) (swap (length a) i) z (swap_shows a b x y i ∙ e);
   one_to_one = λ i j h k e. sym (swap_twice (length a) i) ∙ (ap (swap (length a)) e ∙ swap_twice (length a) j);
   shows = λ i h. swap_shows a b x y i;
   keeps = keeps;

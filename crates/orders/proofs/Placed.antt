@@ -1,10 +1,10 @@
 -- Records and the places in a list that they take, each after all earlier ones that it conflicts with.
 use Rattle.std.proofs.Common.{◌≡◌, ℕ, ◌+◌, ◌<◌, ◌≤◌, cond, eqb, ◌⊎◌, List, [], ◌∷◌, ◌++◌, length, Some, sym, ap, ◌∙◌, inl, inr, arith, length-append}
+use Rattle.std.proofs.lemmas.Option.{slice_get_within}
 use Rattle.std.proofs.lemmas.Bool.{cases_eq, cond-false, cond-true, eq-eqb, ne_eqb}
 use Rattle.std.specs.Option.{option_map}
 use Rattle.std.specs.List.{All, slice_get}
 use Rattle.records.specs.Instance.{Instance}
-use Rattle.sources.proofs.Items.{nth_below}
 use Rattle.sources.proofs.Joined.{nth_left, nth_right}
 use Rattle.sources.proofs.Totals.{total_same}
 use Rattle.sources.proofs.Writers.{writer_exact}
@@ -53,7 +53,7 @@ module _ (l r : List Instance) (place : ℕ → ℕ) (h : Placed l r place) wher
       let c = i.written in
       let same : version c r ≡ earlier c p l = sym ((writer_exact l c (version c r) p).0 agree.named).1 in
       let (left, right) = tally_sides i p agree.shown same in
-      (p, agree.shown, ready_from (length l) (writes_of l) (reads_of l) place (length r) h.begun p c (writes_own l p i agree.shown) (writes_only l p i agree.shown) (nth_below l p i agree.shown) (version_is c (length r) (omega arith) ∙ (same ∙ earlier_is c p l)) reads (left ∙ (full ∙ sym right)))
+      (p, agree.shown, ready_from (length l) (writes_of l) (reads_of l) place (length r) h.begun p c (writes_own l p i agree.shown) (writes_only l p i agree.shown) (slice_get_within l p i agree.shown) (version_is c (length r) (omega arith) ∙ (same ∙ earlier_is c p l)) reads (left ∙ (full ∙ sym right)))
     where
       reads : (d : ℕ) → 1 ≤ reads_of l d p → version_of (writes_of l) place d (length r) ≡ total (writes_of l d) p
       reads d some =

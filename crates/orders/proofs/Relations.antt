@@ -1,9 +1,9 @@
 -- Faithful orders as a relation: of a list to itself, of orders of orders, and turned round.
 use Rattle.std.proofs.Common.{◌≡◌, ℕ, ◌<◌, List, length, Some, sym, refl, ap, ◌∙◌, inl, inr, arith}
+use Rattle.std.proofs.lemmas.Option.{slice_get_within}
 use Rattle.std.proofs.lemmas.Bool.{cases_lt, cases_order}
 use Rattle.std.specs.List.{slice_get}
 use Rattle.records.specs.Instance.{Instance}
-use Rattle.sources.proofs.Items.{nth_below}
 use Rattle.orders.proofs.Wholes.{match_there}
 use Rattle.orders.specs.Faithful.{Conflict, Match}
 use Rattle.orders.specs.Theorems.{OrdersCompose, OrdersTurn, OwnOrder}
@@ -30,7 +30,7 @@ orders_compose l r q (place, m) (other, k) = (
     shows = λ i b. m.shows (other i) (k.in_range i b) ∙ k.shows i b;
     keeps = λ i j a b x y conflict less.
         k.keeps i j a b x y conflict
-        (m.keeps (other i) (other j) a b (k.shows i (nth_below q i a x) ∙ x) (k.shows j (nth_below q j b y) ∙ y) conflict less);
+        (m.keeps (other i) (other j) a b (k.shows i (slice_get_within q i a x) ∙ x) (k.shows j (slice_get_within q j b y) ∙ y) conflict less);
   },
 )
 
@@ -56,12 +56,12 @@ turned l r place m from h = record {
 }
   where
     there : (i : ℕ) (a : Instance) → slice_get l i ≡ Some a → slice_get r (from i) ≡ Some a
-    there i a x = let b = nth_below l i a x in sym (m.shows (from i) (h i b).0) ∙ (ap (slice_get l) (h i b).1 ∙ x)
+    there i a x = let b = slice_get_within l i a x in sym (m.shows (from i) (h i b).0) ∙ (ap (slice_get l) (h i b).1 ∙ x)
 
     keeps : (i j : ℕ) (a b : Instance) → slice_get l i ≡ Some a → slice_get l j ≡ Some b → Conflict a b → from i < from j → i < j
     keeps i j a b x y conflict less =
-        let (_, e) = h i (nth_below l i a x) in
-        let (_, f) = h j (nth_below l j b y) in
+        let (_, e) = h i (slice_get_within l i a x) in
+        let (_, f) = h j (slice_get_within l j b y) in
         elim (cases_order i j) [
           | inl same ↦ absurd (omega (arith, ap from same))
           | inr apart ↦ elim apart [

@@ -1,11 +1,10 @@
 -- Deciding whether records conflict, and exchanging two of a slice.
 use Rattle.std.proofs.Common.{◌≡◌, ℕ, zero, suc, ◌+◌, ◌<◌, Bool, List, [], ◌∷◌, ◌++◌, map, length, get_or, set, Some, Decides, sym, refl, ap, ◌∙◌, subst₂, add-one, arith}
 use Rattle.std.proofs.lemmas.List.{get_or_default, map-append}
-use Rattle.std.proofs.lemmas.Option.{slice_get_read}
+use Rattle.std.proofs.lemmas.Option.{slice_get_read, slice_get-map}
 use Rattle.std.specs.Option.{option_map}
 use Rattle.std.specs.List.{Contains, slice_get}
 use Rattle.records.specs.Instance.{Instance}
-use Rattle.sources.proofs.Items.{nth_map}
 use Rattle.orders.proofs.Cells.{count_behind, counted_has, has_counted}
 use Rattle.orders.proofs.Exchanges.{exchange_keeps}
 use Rattle.orders.specs.Faithful.{Conflict, Faithful}
@@ -39,8 +38,8 @@ module _ {X : Type 0} (f : X → Instance) (xs : List X) (k : ℕ) (x y : X) (fi
   free_from free = record {
     first = f x;
     second = f y;
-    first_there = nth_map f xs k ∙ ap (option_map f) there;
-    second_there = nth_map f xs (suc k) ∙ ap (option_map f) after;
+    first_there = slice_get-map f xs k ∙ ap (option_map f) there;
+    second_there = slice_get-map f xs (suc k) ∙ ap (option_map f) after;
     free = free;
   }
 
@@ -48,8 +47,8 @@ module _ {X : Type 0} (f : X → Instance) (xs : List X) (k : ℕ) (x y : X) (fi
   bound_from conflict h =
       let p = h.first_there in
       let q = h.second_there in
-      let r = nth_map f xs k ∙ ap (option_map f) there in
-      let s = nth_map f xs (suc k) ∙ ap (option_map f) after in
+      let r = slice_get-map f xs k ∙ ap (option_map f) there in
+      let s = slice_get-map f xs (suc k) ∙ ap (option_map f) after in
       let same : f x ≡ h.first = cc in
       let other : f y ≡ h.second = cc in
       h.free (subst₂ Conflict same other conflict)

@@ -1,10 +1,11 @@
 -- Matches, records that have their places, and records that were taken are one thing.
 use Rattle.std.proofs.Common.{◌≡◌, ℕ, zero, suc, ◌+◌, ◌-◌, ◌<◌, ◌≤◌, List, [], ◌∷◌, ◌++◌, length, take, drop, Some, sym, refl, ap, ◌∙◌, inl, inr, arith, length-append}
+use Rattle.std.proofs.lemmas.Option.{slice_get_within}
 use Rattle.std.proofs.lemmas.List.{append_assoc, append-nil, length-take-le, take_all, take-append-drop}
 use Rattle.std.proofs.lemmas.Bool.{cases_eq, cases_order}
 use Rattle.std.specs.List.{slice_get}
 use Rattle.records.specs.Instance.{Instance}
-use Rattle.sources.proofs.Items.{nth_below, nth_there}
+use Rattle.sources.proofs.Items.{nth_there}
 use Rattle.orders.proofs.Cells.{conflict_at, conflict_reads, conflict_writes, reads_of, writes_of}
 use Rattle.orders.proofs.Placed.{Placed, ReadyAt, next_ready, nth_last, placed_front, placed_more, placed_none, ready_next}
 use Rattle.orders.proofs.Places.{Distinct, distinct_all, distinct_few, distinct_missing, times, times_here, times_there}
@@ -33,7 +34,7 @@ module _ (l r : List Instance) (place : ℕ → ℕ) (h : Match l r place) where
   -- an earlier place that conflicts has come
   match_comes : (j q : ℕ) (a b : Instance) → j < length r → q < place j → slice_get l q ≡ Some a → slice_get l (place j) ≡ Some b → Conflict a b → 1 ≤ times place q j
   match_comes j q a b inside before x y conflict =
-      let (k, c, e) = match_there q (nth_below l q a x) in
+      let (k, c, e) = match_there q (slice_get_within l q a x) in
       let first : k < j = h.keeps k j a b (sym (h.shows k c) ∙ (ap (slice_get l) e ∙ x)) (sym (h.shows j inside) ∙ y) conflict (omega arith) in
       rw (← e) (times_here place k j first)
 
@@ -67,8 +68,8 @@ module _ (l r : List Instance) (place : ℕ → ℕ) (h : Placed l r place) wher
 
   placed_keeps : (i j : ℕ) (a b : Instance) → slice_get r i ≡ Some a → slice_get r j ≡ Some b → Conflict a b → place i < place j → i < j
   placed_keeps i j a b x y conflict before =
-      let p = nth_below r i a x in
-      let q = nth_below r j b y in
+      let p = slice_get_within r i a x in
+      let q = slice_get_within r j b y in
       let (c, how) = conflict_at l (place i) (place j) a b (h.shown i p ∙ x) (h.shown j q ∙ y) conflict in
       let come : 1 ≤ times place (place i) j = elim how [
         | inl writes ↦ (h.begun j q).after_writes (place i) c before writes.0 writes.1
@@ -136,7 +137,7 @@ taken_placed l r t = rw (take_all (length r) r (omega arith)) at (taken_front l 
 
 pub placed_taken : (l r : List Instance) (place : ℕ → ℕ) → Placed l r place → Taken l r
 placed_taken l r place h n i e =
-    let b = nth_below r n i e in
+    let b = slice_get_within r n i e in
     let front = placed_front l (take n r) (drop n r) place (rw take-append-drop h) in
     ready_next l (take n r) place front i (place n) (h.shown n b ∙ e) (rw (length-take-le n r (omega arith)) (h.begun n b))
 

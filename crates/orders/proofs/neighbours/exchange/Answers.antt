@@ -1,8 +1,8 @@
 use Rattle.std.proofs.Common.{suc, map, refl, arith}
+use Rattle.std.proofs.lemmas.Option.{slice_get_within}
 use Rattle.std.proofs.lemmas.List.{length-map}
 use Rattle.std.proofs.lemmas.Bool.{both_ways, false≢true}
 use Rattle.records.specs.Meaning.{instance}
-use Rattle.sources.proofs.Items.{nth_below}
 use Rattle.orders.specs.Faithful.{Conflict}
 use Rattle.orders.proofs.Exchanges.{exchange_breaks, exchange_keeps}
 use Rattle.orders.proofs.Swaps.{bound_from, exchange_faithful, free_from}
@@ -10,7 +10,7 @@ use Rattle.orders.proofs.neighbours.exchange.Goals as goal
 
 pub returns-then-at-saturating_sub : goal.returns-then-at-saturating_sub
 returns-then-at-saturating_sub c = record {
-  answer = (λ e. absurd (false≢true e), λ h. absurd (omega (arith, nth_below (map instance c.args.order.now) (suc c.args.at) h.second h.second_there, length-map c.args.order.now instance)));
+  answer = (λ e. absurd (false≢true e), λ h. absurd (omega (arith, slice_get_within (map instance c.args.order.now) (suc c.args.at) h.second h.second_there, length-map c.args.order.now instance)));
   after = refl;
   faithful = λ l h. h;
   free = exchange_keeps;
