@@ -31,9 +31,9 @@ least_split test a (suc b) =
 passes_step : (test : ℕ → Bool) (n p : ℕ) (o : Option ℕ) (t : Bool) → test n ≡ t → (o ≡ Some p → (test p ≡ true) × (p < n)) → option_or o (then_some t n) ≡ Some p → (test p ≡ true) × (p < suc n)
 passes_step test n p (Some x) t is h e = let (a, b) = h e in (a, omega arith)
 passes_step test n p None true is h e = let same : n ≡ p = cc in (ap test (sym same) ∙ is, omega arith)
-passes_step test n p None false is h e = let z : ◌≡◌ {A = ℕ} 0 1 = cc in absurd (omega arith)
+passes_step test n p None false is h e = absurd (cc)
 
 pub least_passes : (test : ℕ → Bool) (n p : ℕ) → least test n ≡ Some p → (test p ≡ true) × (p < n)
 unfolding least
-least_passes test zero p e = let z : ◌≡◌ {A = ℕ} 0 1 = cc in absurd (omega arith)
+least_passes test zero p e = absurd (cc)
 least_passes test (suc n) p e = passes_step test n p (least test n) (test n) refl (least_passes test n p) e

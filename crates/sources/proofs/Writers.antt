@@ -96,7 +96,7 @@ part_writes c None e = absurd (false≢true e)
 
 writes_part : (c : ℕ) (o : Option Instance) → option_map (λ (i : Instance). i.written) o ≡ Some c → unwrap_or (option_map (λ (i : Instance). eqb i.written c) o) false ≡ true
 writes_part c (Some i) e = eq-eqb i.written c (cc)
-writes_part c None e = let z : ◌≡◌ {A = ℕ} 0 1 = cc in absurd (omega arith)
+writes_part c None e = absurd (cc)
 
 -- an earlier writer of c has fewer before it
 writer_before : (c p q : ℕ) (l : List Instance) → writes_at c l q ≡ true → q < p → earlier c q l < earlier c p l
