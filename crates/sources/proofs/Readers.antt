@@ -1,5 +1,5 @@
 -- The readers of a cell at its versions.
-use Rattle.std.proofs.Common.{◌≡◌, ℕ, ◌<◌, Bool, cond, eqb, List, length, ap, ◌∙◌, arith}
+use Rattle.std.proofs.Common.{◌≡◌, ℕ, ◌<◌, cond, eqb, List, length, refl, ◌∙◌, arith}
 use Rattle.std.proofs.lemmas.Bool.{ne_eqb}
 use Rattle.records.specs.Instance.{Instance}
 use Rattle.sources.proofs.Totals.{total_none, total_one, total_same, total_swap}
@@ -15,9 +15,7 @@ version_slots c v l p = cond (eqb (earlier c p l) v) (slots_at c l p) 0
 -- after the last write no version follows
 pub readers_past : (c v : ℕ) (l : List Instance) → writes c l < v → readers c v l ≡ 0
 unfolding readers
-readers_past c v l h =
-    total_none (version_slots c v l) (length l)
-    (λ p b. ap {B = ℕ} (λ (t : Bool). cond t (slots_at c l p) 0) (ne_eqb (earlier c p l) v (λ e. omega (arith, earlier_writes c p l))))
+readers_past c v l h = total_none (version_slots c v l) (length l) (λ p b. rw (ne_eqb (earlier c p l) v (λ e. omega (arith, earlier_writes c p l))) refl)
 
 pub readers_add_up : ReadersAddUp
 unfolding readers read_slots

@@ -21,11 +21,8 @@ or_moved a n None None false = refl
 
 pub least_split : (test : ℕ → Bool) (a b : ℕ) → least test (a + b) ≡ option_or (least test a) (option_map (λ k. a + k) (least (λ k. test (a + k)) b))
 unfolding least
-least_split test a zero = ap (least test) (add-zero a) ∙ sym (or_none (least test a))
-least_split test a (suc b) =
-    ap (least test) (add-suc a b)
-    ∙ (ap (λ (o : Option ℕ). option_or o (then_some (test (a + b)) (a + b))) (least_split test a b)
-    ∙ or_moved a b (least test a) (least (λ k. test (a + k)) b) (test (a + b)))
+least_split test a zero = rw (add-zero a) (sym (or_none (least test a)))
+least_split test a (suc b) = rw (add-suc a b, least_split test a b) (or_moved a b (least test a) (least (λ k. test (a + k)) b) (test (a + b)))
 
 -- what is found passes
 passes_step : (test : ℕ → Bool) (n p : ℕ) (o : Option ℕ) (t : Bool) → test n ≡ t → (o ≡ Some p → (test p ≡ true) × (p < n)) → option_or o (then_some t n) ≡ Some p → (test p ≡ true) × (p < suc n)

@@ -1,5 +1,5 @@
 -- Totals over the numbers below n.
-use Rattle.std.proofs.Common.{◌≡◌, ℕ, zero, suc, ◌+◌, ◌-◌, ◌*◌, ◌<◌, ◌≤◌, Bool, cond, eqb, sym, refl, ap, ◌∙◌, inl, inr, add-zero, add-suc, add-one, arith}
+use Rattle.std.proofs.Common.{◌≡◌, ℕ, zero, suc, ◌+◌, ◌-◌, ◌*◌, ◌<◌, ◌≤◌, cond, eqb, sym, refl, ap, ◌∙◌, inl, inr, add-zero, add-suc, add-one, arith}
 use Rattle.std.proofs.lemmas.Bool.{cases_eq, eq-eqb, ne_eqb}
 use Rattle.sources.specs.Numbers.{total}
 
@@ -51,6 +51,6 @@ unfolding total
 total_one a x zero h = absurd (omega arith)
 total_one a x (suc n) h =
     elim (cases_eq a n) [
-      | inl e ↦ omega (arith, total_none (λ k. cond (eqb a k) x 0) n (λ k l. ap (λ (t : Bool). cond t x 0) (ne_eqb a k (λ z. omega arith))), ap (λ (t : Bool). cond t x 0) (eq-eqb a n e))
-      | inr ne ↦ omega (arith, total_one a x n (omega arith), ap (λ (t : Bool). cond t x 0) (ne_eqb a n ne))
+      | inl e ↦ rw (eq-eqb a n e) (omega (arith, total_none (λ k. cond (eqb a k) x 0) n (λ k l. rw (ne_eqb a k (λ z. omega arith)) refl)))
+      | inr ne ↦ rw (ne_eqb a n ne) (omega (arith, total_one a x n (omega arith)))
     ]

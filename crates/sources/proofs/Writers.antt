@@ -61,8 +61,8 @@ found_step k n e (Some x) w h = sym (lt-ltb k (e + cond w 1 0) (omega (arith, lt
 found_step k n e None false h = sym (le-ltb k (e + 0) (omega (arith, ltb-false k e (sym h))))
 found_step k n e None true h =
     elim (cases_eq e k) [
-      | inl same ↦ ap (λ (t : Bool). is_some (then_some t n)) (eq-eqb e k same) ∙ sym (lt-ltb k (e + 1) (omega arith))
-      | inr ne ↦ ap (λ (t : Bool). is_some (then_some t n)) (ne_eqb e k ne) ∙ sym (le-ltb k (e + 1) (omega (arith, ltb-false k e (sym h))))
+      | inl same ↦ rw (eq-eqb e k same) (sym (lt-ltb k (e + 1) (omega arith)))
+      | inr ne ↦ rw (ne_eqb e k ne) (sym (le-ltb k (e + 1) (omega (arith, ltb-false k e (sym h)))))
     ]
 
 writer_found : (c k n : ℕ) (l : List Instance) → is_some (least (is_writer c k l) n) ≡ ltb k (earlier c n l)
