@@ -80,10 +80,7 @@ impl<S: Source> Source for Rounds<S> {
     fn writer(&self, cell: u16, count: u32) -> Option<u32> {
         let length = self.below.length();
         let writes = self.below.writes(cell);
-        if writes == 0 {
-            return None;
-        }
-        let turn = count / writes;
+        let turn = count.checked_div(writes)?;
         if turn >= self.turns() {
             return None;
         }
