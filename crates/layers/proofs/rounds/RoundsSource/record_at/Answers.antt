@@ -1,12 +1,8 @@
-use Rattle.std.proofs.Common.{length, sym, inl, inr, arith}
+use Rattle.std.proofs.Common.{length, inl, inr, arith}
 use Rattle.std.proofs.lemmas.Bool.{cases_lt}
-use Rattle.std.proofs.lemmas.Option.{slice_get_past}
 use Rattle.layers.proofs.Repeated.{none_below, nth_turn}
-use Rattle.layers.specs.Lists.{repeated, turns}
+use Rattle.layers.specs.Lists.{turns}
 use Rattle.layers.proofs.rounds.RoundsSource.record_at.Goals as goal
-
-pub returns-then-position-length : goal.returns-then-position-length
-returns-then-position-length g c = sym (slice_get_past (repeated c.args.self.now.1 (g.S.Source.list c.args.self.now.0)) c.args.position (omega arith))
 
 pub nonzero_rem-position : goal.nonzero_rem-position
 nonzero_rem-position g c =
