@@ -14,6 +14,7 @@ pub struct After<A, B> {
     second: B,
 }
 
+/// Contracts see the pair of the two sources.
 impl<A, B> Model for After<A, B> {
     ghost Value = { A × B };
 

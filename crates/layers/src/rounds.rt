@@ -14,6 +14,7 @@ pub struct Rounds<S> {
     times: u16,
 }
 
+/// Contracts see the source below and the times.
 impl<S> Model for Rounds<S> {
     ghost Value = { S × ℕ };
 
