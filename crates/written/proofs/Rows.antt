@@ -1,12 +1,14 @@
 -- Steps over the rows of a written list.
-use Rattle.std.proofs.Common.{◌≡◌, ℕ, zero, suc, ◌+◌, ◌<◌, ◌≤◌, min, Bool, true, false, cond, ◌&&◌, eqb, ltb, List, [], ◌∷◌, map, length, get_or, take, is_some, Some, None, Ok, Err, Option, Result, unwrap_or, sym, refl, ap, ◌∙◌, inl, inr, add-zero, add-one, arith}
+use Rattle.std.proofs.Common.{◌≡◌, ℕ, zero, suc, ◌+◌, ◌<◌, ◌≤◌, min, Bool, true, false, cond, not, eqb, ltb, List, [], ◌∷◌, map, length, get_or, take, Some, None, Ok, Err, Option, Result, unwrap_or, sym, refl, ap, ◌∙◌, inl, inr, add-zero, add-one, arith}
 use Rattle.std.proofs.lemmas.List.{length-map}
 use Rattle.std.proofs.lemmas.List.{length-take-le, take_all, take-map}
-use Rattle.std.proofs.lemmas.Option.{slice_get-get_or, slice_get-map}
-use Rattle.std.proofs.lemmas.Bool.{cases_lt, eq-eqb, le-ltb, lt-ltb, ne_eqb}
+use Rattle.std.proofs.lemmas.Option.{get_or_from_slice_get, slice_get-get_or, slice_get_within}
+use Rattle.std.proofs.lemmas.Bool.{cases_lt, eq-eqb, ne_eqb, not-false}
 use Rattle.std.specs.Option.{option_map}
 use Rattle.std.specs.Result.{result_ok}
-use Rattle.std.specs.List.{slice_get}
+use Rattle.std.proofs.lemmas.List.Quantifiers.{position-Some}
+use Rattle.std.proofs.lemmas.List.Sums.{fails_before_first}
+use Rattle.std.specs.List.{AllPass, position_or_len, slice_get}
 use Rattle.records.specs.Instance.{Instance}
 use Rattle.records.specs.Making.{judged_row, result_map}
 use Rattle.records.specs.Meaning.{instance, row_instance}
@@ -14,33 +16,18 @@ use Rattle.records.specs.declared.fault.RecordFault.{RecordFault}
 use Rattle.records.specs.declared.fault.RecordFault.TheVariants.{Operator, Reads}
 use Rattle.records.specs.declared.record.Record.{Record}
 use Rattle.records.specs.declared.row.Row.{Row}
-use Rattle.sources.proofs.Items.{mapped_twice}
+use Rattle.sources.proofs.Items.{nth_map}
 use Rattle.sources.proofs.Readers.{version_slots}
 use Rattle.sources.proofs.Totals.{total_more, total_same}
 use Rattle.sources.proofs.Writers.{earlier_next, earlier_past}
 use Rattle.sources.specs.Numbers.{total}
 use Rattle.sources.specs.Questions.{earlier, slots_at, slots_of, writes, writes_at}
-use Rattle.written.specs.Rows.{all_below, first_misfit, row_fits}
-use Rattle.written.specs.Meaning.{fit_first, passed}
+use Rattle.written.specs.Sound.{passed}
+use Rattle.written.specs.Rows.{first_misfit, row_fits}
 
-pub below_yes : (C c : ℕ) (cs : List ℕ) → c < C → all_below C (c ∷ cs) ≡ all_below C cs
-below_yes C c cs h = ap (λ (t : Bool). t && all_below C cs) (lt-ltb c C h)
-
-pub below_no : (C c : ℕ) (cs : List ℕ) → C ≤ c → all_below C (c ∷ cs) ≡ false
-below_no C c cs h = ap (λ (t : Bool). t && all_below C cs) (le-ltb c C h)
-
--- a position found in what is left, as one of the whole list
-abbrev pub moved : ℕ → Option ℕ → Option ℕ
-moved n o = option_map (λ k. n + k) o
-
-moved_more : (n : ℕ) (o : Option ℕ) → moved n (option_map suc o) ≡ moved (n + 1) o
-moved_more n o = mapped_twice (λ k. n + k) suc (λ k. (n + 1) + k) (λ k. omega arith) o
-
-pub misfit_yes : (C n : ℕ) (r : Row) (rs : List Row) → row_fits C r ≡ false → moved n (first_misfit C (r ∷ rs)) ≡ Some n
-misfit_yes C n r rs e = ap (λ (t : Bool). moved n (cond t (option_map suc (first_misfit C rs)) (Some 0))) e ∙ ap Some (add-zero n)
-
-pub misfit_no : (C n : ℕ) (r : Row) (rs : List Row) → row_fits C r ≡ true → moved n (first_misfit C (r ∷ rs)) ≡ moved (n + 1) (first_misfit C rs)
-misfit_no C n r rs e = ap (λ (t : Bool). moved n (cond t (option_map suc (first_misfit C rs)) (Some 0))) e ∙ moved_more n (first_misfit C rs)
+-- the row that stands for none
+abbrev pub blank : Row
+blank = record { operator = 0; written = 0; count = 0; reads = [] }
 
 -- the instance that the row at p means
 pub row_at : (rows : List Row) (p : ℕ) (d : Row) → p < length rows → slice_get (map row_instance rows) p ≡ Some (row_instance (get_or rows p d))
@@ -78,10 +65,6 @@ readers_yes c v rows p d h e = readers_step c v rows p d true h (eq-eqb (earlier
 pub readers_no : (c v : ℕ) (rows : List Row) (p : ℕ) (d : Row) → p < length rows → (earlier c p (map row_instance rows) ≡ v → ⊥) → total (version_slots c v (map row_instance rows)) (p + 1) ≡ total (version_slots c v (map row_instance rows)) p
 readers_no c v rows p d h e = readers_step c v rows p d false h (ne_eqb (earlier c p (map row_instance rows)) v e) ∙ add-zero (total (version_slots c v (map row_instance rows)) p)
 
--- the row that stands for none
-abbrev pub blank : Row
-blank = record { operator = 0; written = 0; count = 0; reads = [] }
-
 nth_take : {X : Type 0} (n p : ℕ) (xs : List X) → p < n → slice_get (take n xs) p ≡ slice_get xs p
 nth_take zero p xs h = absurd (omega arith)
 nth_take (suc n) p [] h = refl
@@ -113,24 +96,20 @@ fits_judged C r e =
     ap (λ (t : Bool). cond t (Err Operator) (cond (ltb 5 r.count) (Err Reads) (Ok (row_instance r)))) p.small
     ∙ ap (λ (t : Bool). cond t (Err Reads) (Ok (row_instance r))) p.few
 
--- all rows fit where no misfit is found
-pub all_rows_fit : (C : ℕ) (rows : List Row) (p : ℕ) (r : Row) → is_some (first_misfit C rows) ≡ false → slice_get rows p ≡ Some r → row_fits C r ≡ true
-all_rows_fit C [] p r e f = let z : ◌≡◌ {A = ℕ} 0 1 = cc in absurd (omega arith)
-all_rows_fit C (x ∷ xs) zero r e f = let same : x ≡ r = cc in let (a, b) = fit_first (row_fits C x) (first_misfit C xs) e in ap (row_fits C) (sym same) ∙ a
-all_rows_fit C (x ∷ xs) (suc p) r e f = let (a, b) = fit_first (row_fits C x) (first_misfit C xs) e in all_rows_fit C xs p r b f
+-- an element that is there passes where all do
+pub passed_there : {X : Type 0} (p : X → Bool) (xs : List X) (i : ℕ) (x : X) → AllPass p xs → slice_get xs i ≡ Some x → p x ≡ true
+passed_there p xs i x h e = sym (ap p (get_or_from_slice_get xs i x x e)) ∙ h i x (slice_get_within xs i x e)
 
-some_suc : (o : Option ℕ) (p : ℕ) → option_map suc o ≡ Some p → (q : ℕ) × (o ≡ Some q) × (suc q ≡ p)
-some_suc None p e = let z : ◌≡◌ {A = ℕ} 0 1 = cc in absurd (omega arith)
-some_suc (Some x) p e = (x, refl, cc)
-
-misfit_step : (t : Bool) (o : Option ℕ) (n p : ℕ) → ((q : ℕ) → o ≡ Some q → q < n) → cond t (option_map suc o) (Some 0) ≡ Some p → p < suc n
-misfit_step true o n p h e = let (q, f, s) = some_suc o p e in omega (arith, h q f)
-misfit_step false o n p h e = let z : 0 ≡ p = cc in omega arith
+-- where no row is found that does not fit, all do
+pub all_rows_fit : (C : ℕ) (rows : List Row) → first_misfit C rows ≡ None → AllPass (row_fits C) rows
+all_rows_fit C rows e k d l = not-false (row_fits C (get_or rows k d)) (fails_before_first (λ r. not (row_fits C r)) rows k d (past (position_or_len (λ r. not (row_fits C r)) rows) e))
+  where
+    past : (i : ℕ) → cond (ltb i (length rows)) (Some i) None ≡ None → k < i
+    past i e = grind arith
 
 -- a misfit is one of the rows
 pub misfit_below : (C : ℕ) (rows : List Row) (p : ℕ) → first_misfit C rows ≡ Some p → p < length rows
-misfit_below C [] p e = let z : ◌≡◌ {A = ℕ} 0 1 = cc in absurd (omega arith)
-misfit_below C (r ∷ rs) p e = misfit_step (row_fits C r) (first_misfit C rs) (length rs) p (misfit_below C rs) e
+misfit_below C rows p e = (position-Some (λ r. not (row_fits C r)) rows p blank e).0
 
 pub ok_meant : (r : Result Record RecordFault) (i : Instance) → result_map instance r ≡ Ok i → option_map instance (result_ok r) ≡ Some i
 ok_meant (Ok x) i e = cc

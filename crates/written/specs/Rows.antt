@@ -1,6 +1,6 @@
 -- The rows of a written list.
-use Rattle.std.specs.Prelude.{ℕ, suc, ◌+◌, Bool, true, false, cond, not, ◌&&◌, List, [], ◌∷◌, length, Some, None, Ok, Err, Option, Result, nat_lt}
-use Rattle.std.specs.Option.{option_map}
+use Rattle.std.specs.Prelude.{ℕ, ◌+◌, Bool, false, if◌then◌else◌, not, ◌&&◌, List, length, Some, None, Ok, Err, Option, Result, nat_lt}
+use Rattle.std.specs.List.{list_all, position}
 use Rattle.records.specs.Instance.{Instance}
 use Rattle.records.specs.Making.{judged_row}
 use Rattle.records.specs.declared.fault.RecordFault.{RecordFault}
@@ -10,8 +10,7 @@ use Rattle.written.specs.declared.fault.RowsFault.TheVariants.{TooMany, Cells, M
 
 -- are all these cells below C
 abbrev pub all_below : ℕ → List ℕ → Bool
-all_below C [] = true
-all_below C (c ∷ cs) = nat_lt c C && all_below C cs
+all_below C cs = list_all (λ c. nat_lt c C) cs
 
 -- an instance that was judged: it is one, and its cells are below C
 abbrev pub judged_fits : ℕ → Result Instance RecordFault → Bool
@@ -24,8 +23,7 @@ row_fits C r = judged_fits C (judged_row r)
 
 -- the position of the first row that does not fit
 abbrev pub first_misfit : ℕ → List Row → Option ℕ
-first_misfit C [] = None
-first_misfit C (r ∷ rs) = cond (row_fits C r) (option_map suc (first_misfit C rs)) (Some 0)
+first_misfit C rows = position (λ r. not (row_fits C r)) rows
 
 -- C is 1 to 4,096
 abbrev pub cells_fit : ℕ → Bool
@@ -38,7 +36,7 @@ none_misfits (Some p) = Err (Misfit (p + 1))
 
 -- what loading a written list answers: first the number of rows is judged, then the number of cells, then row by row
 abbrev pub rows_judged : ℕ → List Row → Result (Unit {0}) RowsFault
-rows_judged C rows = cond (nat_lt 8192 (length rows)) (Err TooMany) (cond (cells_fit C) (none_misfits (first_misfit C rows)) (Err Cells))
+rows_judged C rows = if nat_lt 8192 (length rows) then Err TooMany else if cells_fit C then none_misfits (first_misfit C rows) else Err Cells
 
 -- what is held after an answer: the new, or after a refusal the old
 abbrev pub held_after : {A : Type 0} → Result (Unit {0}) RowsFault → A → A → A

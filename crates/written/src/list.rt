@@ -1,6 +1,7 @@
 //! The written list: rows in the caller's memory.
-ghost use Rattle.std.specs.Prelude.{◌≡◌, ◌<◌, ◌≤◌, false, length, is_some};
-ghost use Rattle.written.specs.Rows.{first_misfit};
+ghost use Rattle.std.specs.Prelude.{◌<◌, ◌≤◌, length};
+ghost use Rattle.std.specs.List.{AllPass};
+ghost use Rattle.written.specs.Rows.{row_fits};
 
 use records::Row;
 
@@ -17,5 +18,5 @@ pub struct WrittenList<'a> {
     ghost some_cells: { 0 < cells },
     ghost few_cells: { cells ≤ 4096 },
     ghost few_rows: { length rows.now ≤ 8192 },
-    ghost fit: { is_some (first_misfit cells rows.now) ≡ false },
+    ghost fit: { AllPass (row_fits cells) rows.now },
 }

@@ -1,5 +1,6 @@
 //! Rows become a written list.
 ghost use Rattle.std.specs.Prelude.{◌≡◌, [], map};
+ghost use Rattle.std.specs.Result.{IfOk, result_map_both};
 ghost use Rattle.records.specs.Meaning.{row_instance};
 ghost use Rattle.written.specs.Rows.{all_below, first_misfit, held_after, row_fits, rows_judged};
 ghost use Rattle.written.specs.Meaning.{rows_list};
@@ -24,25 +25,32 @@ impl<'a> WrittenList<'a> {
         }
     }
 
+    #[tactic(auto, using(crate::proofs::Rows::all_rows_fit, crate::proofs::Rows::misfit_below))]
+    /// The list of these cells and rows, or the first reason why they are none.
+    pub fn from_rows(cells: u16, rows: &'a [Row]) -> Result<WrittenList<'a>, RowsFault>
+        ensures answer { result_map_both (λ _. tt) (λ e. e) result ≡ rows_judged cells rows.now }
+        ensures cells { IfOk result (λ w. w.cells ≡ cells) }
+        ensures list { IfOk result (λ w. rows_list w ≡ map row_instance rows.now) }
+    {
+        if rows.len() > MOST_ROWS {
+            return Err(RowsFault::TooMany);
+        }
+        if !(1..=MOST_CELLS).contains(&cells) {
+            return Err(RowsFault::Cells);
+        }
+        if let Some(position) = first_misfit(cells, rows) {
+            return Err(RowsFault::Misfit { row: position + 1 });
+        }
+        Ok(WrittenList { cells, rows })
+    }
+
     /// Takes these cells and rows in place of its own; a refusal leaves the list as it was.
     pub fn load(&mut self, cells: u16, rows: &'a [Row]) -> Result<(), RowsFault>
         ensures answer { result ≡ rows_judged cells rows.now }
         ensures cells { self.new.cells ≡ held_after result cells self.old.cells }
         ensures list { rows_list self.new ≡ held_after result (map row_instance rows.now) (rows_list self.old) }
     {
-        if rows.len() > MOST_ROWS {
-            return Err(RowsFault::TooMany);
-        }
-        if cells == 0 {
-            return Err(RowsFault::Cells);
-        }
-        if cells > MOST_CELLS {
-            return Err(RowsFault::Cells);
-        }
-        if let Some(position) = first_misfit(cells, rows) {
-            return Err(RowsFault::Misfit { row: position + 1 });
-        }
-        *self = WrittenList { cells, rows };
+        *self = WrittenList::from_rows(cells, rows)?;
         Ok(())
     }
 }
@@ -51,12 +59,7 @@ impl<'a> WrittenList<'a> {
 fn first_misfit(cells: u16, rows: &[Row]) -> Option<usize>
     ensures { result ≡ first_misfit cells rows.now }
 {
-    for (position, row) in rows.iter().enumerate() {
-        if !row_fits(cells, row) {
-            return Some(position);
-        }
-    }
-    None
+    rows.iter().position(|row| !row_fits(cells, row))
 }
 
 /// Is this row a record whose cells are below `cells`?
@@ -73,10 +76,5 @@ fn row_fits(cells: u16, row: &Row) -> bool
 fn all_below(limit: u16, cells: &[u16]) -> bool
     ensures { result ≡ all_below limit cells.now }
 {
-    for &cell in cells {
-        if cell >= limit {
-            return false;
-        }
-    }
-    true
+    cells.iter().all(|&cell| cell < limit)
 }

@@ -2,7 +2,8 @@
 ghost use Rattle.std.specs.Prelude.{◌≡◌, ◌≤◌, map, length};
 ghost use Rattle.records.specs.Meaning.{row_instance};
 ghost use Rattle.sources.specs.Questions.{slots_of, writes};
-ghost use Rattle.written.specs.Meaning.{rows_list, rows_sound};
+ghost use Rattle.written.specs.Sound.{rows_sound};
+ghost use Rattle.written.specs.Meaning.{rows_list};
 
 use crate::list::WrittenList;
 use records::{MOST_READS, Record, Row};
