@@ -1,14 +1,15 @@
 -- Steps over the rows of a written list.
-use Rattle.std.proofs.Common.{◌≡◌, ℕ, zero, suc, ◌+◌, ◌<◌, ◌≤◌, min, Bool, true, false, cond, not, eqb, ltb, List, [], ◌∷◌, map, length, get_or, take, Some, None, Ok, Err, Option, Result, unwrap_or, sym, refl, ap, ◌∙◌, inl, inr, add-zero, add-one, arith}
+use Rattle.std.proofs.Common.{count_by, filter, Bor, ◌≡◌, ℕ, zero, suc, ◌+◌, ◌<◌, ◌≤◌, min, Bool, true, false, cond, not, eqb, ltb, List, [], ◌∷◌, map, length, get_or, take, Some, None, Ok, Err, Option, Result, unwrap_or, sym, refl, ap, ◌∙◌, inl, inr, add-zero, add-one, arith}
 use Rattle.std.proofs.lemmas.List.{length-map}
 use Rattle.std.proofs.lemmas.List.{length-take-le, take_all, take-map}
-use Rattle.std.proofs.lemmas.Option.{get_or_from_slice_get, slice_get-get_or, slice_get_within}
+use Rattle.std.proofs.lemmas.Option.{get_or_from_slice_get, none-some, slice_get-get_or, slice_get_within}
 use Rattle.std.proofs.lemmas.Bool.{cases_lt, eq-eqb, ne_eqb, not-false}
 use Rattle.std.specs.Option.{option_map}
 use Rattle.std.specs.Result.{result_ok}
 use Rattle.std.proofs.lemmas.List.Quantifiers.{position-Some}
-use Rattle.std.proofs.lemmas.List.Sums.{fails_before_first}
-use Rattle.std.specs.List.{AllPass, position_or_len, slice_get}
+use Rattle.std.proofs.lemmas.List.Sums.{fails_before_first, length-filter, sum_by-cons}
+use Rattle.std.proofs.lemmas.List.Filters.{length-filter_more}
+use Rattle.std.specs.List.{AllPass, enumerate_from, position_or_len, slice_get}
 use Rattle.records.specs.Instance.{Instance}
 use Rattle.records.specs.Making.{judged_row, result_map}
 use Rattle.records.specs.Meaning.{instance, row_instance}
@@ -19,9 +20,9 @@ use Rattle.records.specs.declared.row.Row.{Row}
 use Rattle.sources.proofs.Items.{nth_map}
 use Rattle.sources.proofs.Readers.{version_slots}
 use Rattle.sources.proofs.Totals.{total_more, total_same}
-use Rattle.sources.proofs.Writers.{earlier_next, earlier_past}
+use Rattle.sources.proofs.Writers.{earlier_next, earlier_none, earlier_past, writer_absent, writer_from}
 use Rattle.sources.specs.Numbers.{total}
-use Rattle.sources.specs.Questions.{earlier, slots_at, slots_of, writes, writes_at}
+use Rattle.sources.specs.Questions.{earlier, slots_at, slots_of, writer, writes, writes_at}
 use Rattle.written.specs.Sound.{passed}
 use Rattle.written.specs.Rows.{first_misfit, row_fits}
 
@@ -65,29 +66,86 @@ readers_yes c v rows p d h e = readers_step c v rows p d true h (eq-eqb (earlier
 pub readers_no : (c v : ℕ) (rows : List Row) (p : ℕ) (d : Row) → p < length rows → (earlier c p (map row_instance rows) ≡ v → ⊥) → total (version_slots c v (map row_instance rows)) (p + 1) ≡ total (version_slots c v (map row_instance rows)) p
 readers_no c v rows p d h e = readers_step c v rows p d false h (ne_eqb (earlier c p (map row_instance rows)) v e) ∙ add-zero (total (version_slots c v (map row_instance rows)) p)
 
-nth_take : {X : Type 0} (n p : ℕ) (xs : List X) → p < n → slice_get (take n xs) p ≡ slice_get xs p
-nth_take zero p xs h = absurd (omega arith)
-nth_take (suc n) p [] h = refl
-nth_take (suc n) zero (x ∷ xs) h = refl
-nth_take (suc n) (suc p) (x ∷ xs) h = nth_take n p xs (omega arith)
+-- the earlier writes, counted in the rows
+pub earlier_counted : (c p : ℕ) (rows : List Row) → earlier c p (map row_instance rows) ≡ count_by (λ r. eqb r.written c) (take p rows)
+earlier_counted c zero rows = earlier_none c (map row_instance rows)
+earlier_counted c (suc p) rows =
+    let q = λ (r : Row). eqb r.written c in
+    elim (cases_lt p (length rows)) [
+      | inl h ↦ omega (
+        arith,
+        earlier_next c p (map row_instance rows),
+        earlier_counted c p rows,
+        ap {B = ℕ} (λ (t : Bool). cond t 1 0) (row_writes c rows p blank h),
+        ap (λ k. count_by q (take k rows)) (add-one p),
+        length-filter q (take (p + 1) rows),
+        length-filter q (take p rows),
+        length-filter_more q rows p blank h
+      )
+      | inr h ↦ omega (
+        arith,
+        earlier_past c (suc p) (map row_instance rows) (omega (arith, length-map rows row_instance)),
+        earlier_past c p (map row_instance rows) (omega (arith, length-map rows row_instance)),
+        earlier_counted c p rows,
+        ap (count_by q) (take_all p rows h),
+        ap (count_by q) (take_all (suc p) rows (omega arith))
+      )
+    ]
 
--- the writes in a front of the list
-writes_take : (c n : ℕ) (l : List Instance) → n ≤ length l → writes c (take n l) ≡ earlier c n l
-unfolding earlier
-writes_take c n l h =
-    ap (total (λ q. cond (writes_at c (take n l) q) 1 0)) (length-take-le n l h)
-    ∙ total_same (λ q. cond (writes_at c (take n l) q) 1 0) (λ q. cond (writes_at c l q) 1 0) n
-    (λ q b. ap {B = ℕ} (λ (o : Option Instance). cond (unwrap_or (option_map (λ (i : Instance). eqb i.written c) o) false) 1 0) (nth_take n q l b))
+-- x stands at j and passes, after k others that do
+abbrev pub StandsAt : {X : Type 0} (p : X → Bool) (xs : List X) (k : ℕ) (x : X) (j : ℕ) → Type 0
+StandsAt p xs k x j = (slice_get xs j ≡ Some x) × (p x ≡ true) × (count_by p (take j xs) ≡ k)
 
-pub writes_front : (c p : ℕ) (rows : List Row) → writes c (map row_instance (take (min (length rows) p) rows)) ≡ earlier c p (map row_instance rows)
-writes_front c p rows =
-    let long = length-map rows row_instance in
-    ap (writes c) (sym (take-map row_instance (min (length rows) p) rows))
-    ∙ (writes_take c (min (length rows) p) (map row_instance rows) (omega arith)
-    ∙ elim (cases_lt p (length rows)) [
-      | inl h ↦ ap (λ (k : ℕ). earlier c k (map row_instance rows)) (omega arith)
-      | inr h ↦ earlier_past c (min (length rows) p) (map row_instance rows) (omega arith) ∙ sym (earlier_past c p (map row_instance rows) (omega arith))
-    ])
+stands_later : {X : Type 0} (p : X → Bool) (y : X) (ys : List X) (k m : ℕ) (x : X) (j : ℕ) → StandsAt p ys m x j → cond (p y) 1 0 + m ≡ k → StandsAt p (y ∷ ys) k x (suc j)
+stands_later p y ys k m x j (there, passes, before) e = (there, passes, omega (arith, e, before, sum_by-cons (λ x. cond (p x) 1 0) y (take j ys)))
+
+-- the k-th that passes, of a list with its places from n
+pub stands_enumerated : {X : Type 0} (p : X → Bool) (n : ℕ) (xs : List X) (k i : ℕ) (x : X) → slice_get (filter (λ (y : ℕ × X). p y.1) (enumerate_from n xs)) k ≡ Some (i, x) → (j : ℕ) × (i ≡ n + j) × StandsAt p xs k x j
+stands_enumerated p n [] k i x e = absurd (none-some (i, x) e)
+stands_enumerated {X} p n (y ∷ ys) k i x e = step (p y) k refl (λ k. stands_enumerated p (n + 1) ys k i x) e
+  where
+    rest : List (ℕ × X)
+    rest = filter (λ (z : ℕ × X). p z.1) (enumerate_from (n + 1) ys)
+    step : (t : Bool) (k : ℕ) → p y ≡ t → ((k : ℕ) → slice_get rest k ≡ Some (i, x) → (j : ℕ) × (i ≡ (n + 1) + j) × StandsAt p ys k x j) → slice_get (cond t ((n, y) ∷ rest) rest) k ≡ Some (i, x) → (j : ℕ) × (i ≡ n + j) × StandsAt p (y ∷ ys) k x j
+    step true zero is more e =
+        let same : (n, y) ≡ (i, x) = ap (λ (o : Option (ℕ × X)). unwrap_or o (n, y)) e in
+        let found : y ≡ x = ap (λ (z : ℕ × X). z.1) same in
+        (0, omega (arith, ap {B = ℕ} (λ (z : ℕ × X). z.0) same), (ap Some found, ap p (sym found) ∙ is, refl))
+    step true (suc k) is more e = let (j, at, h) = more k e in (suc j, omega arith, stands_later p y ys (suc k) k x j h (omega (arith, ap {B = ℕ} (λ (t : Bool). cond t 1 0) is)))
+    step false k is more e = let (j, at, h) = more k e in (suc j, omega arith, stands_later p y ys k k x j h (omega (arith, ap {B = ℕ} (λ (t : Bool). cond t 1 0) is)))
+
+count_enumerated : {X : Type 0} (p : X → Bool) (n : ℕ) (xs : List X) → count_by (λ (y : ℕ × X). p y.1) (enumerate_from n xs) ≡ count_by p xs
+count_enumerated p n [] = refl
+count_enumerated {X} p n (x ∷ xs) =
+    omega (
+      arith,
+      sum_by-cons (λ (y : ℕ × X). cond (p y.1) 1 0) (n, x) (enumerate_from (n + 1) xs),
+      sum_by-cons (λ x. cond (p x) 1 0) x xs,
+      count_enumerated p (n + 1) xs
+    )
+
+nth_none : {X : Type 0} (xs : List X) (k : ℕ) → slice_get xs k ≡ None → length xs ≤ k
+nth_none [] k e = omega arith
+nth_none (x ∷ xs) zero e = absurd (none-some x (sym e))
+nth_none (x ∷ xs) (suc k) e = omega (arith, nth_none xs k e)
+
+-- what the chain of the rows that write c finds at k
+pub writer_found : (c k : ℕ) (rows : List Row) (o : Option (ℕ × Bor Row)) → option_map (λ (x : ℕ × Bor Row). (x.0, x.1.now)) o ≡ slice_get (filter (λ (x : ℕ × Row). eqb x.1.written c) (enumerate_from 0 rows)) k → option_map (λ (x : ℕ × Bor Row). x.0) o ≡ writer c k (map row_instance rows)
+writer_found c k rows None e =
+    let q = λ (r : Row). eqb r.written c in
+    let l = map row_instance rows in
+    sym (writer_absent c k l (omega (
+      arith,
+      nth_none (filter (λ (x : ℕ × Row). q x.1) (enumerate_from 0 rows)) k (sym e),
+      length-filter (λ (x : ℕ × Row). q x.1) (enumerate_from 0 rows),
+      count_enumerated q 0 rows,
+      earlier_counted c (length l) rows,
+      ap (count_by q) (take_all (length l) rows (omega (arith, length-map rows row_instance)))
+    )))
+writer_found c k rows (Some x) e =
+    let (j, at, h) = stands_enumerated (λ (r : Row). eqb r.written c) 0 rows k x.0 x.1.now (sym e) in
+    let writes = ap (λ (o : Option Instance). unwrap_or (option_map (λ (i : Instance). eqb i.written c) o) false) (nth_map row_instance rows j ∙ ap (option_map row_instance) h.0) ∙ h.1 in
+    ap Some (omega arith) ∙ sym (writer_from (map row_instance rows) c k j writes (earlier_counted c j rows ∙ h.2))
 
 -- what a row that fits means as a record
 pub fits_judged : (C : ℕ) (r : Row) → row_fits C r ≡ true → judged_row r ≡ Ok (row_instance r)
@@ -114,10 +172,3 @@ misfit_below C rows p e = (position-Some (λ r. not (row_fits C r)) rows p blank
 pub ok_meant : (r : Result Record RecordFault) (i : Instance) → result_map instance r ≡ Ok i → option_map instance (result_ok r) ≡ Some i
 ok_meant (Ok x) i e = cc
 ok_meant (Err f) i e = let z : ◌≡◌ {A = ℕ} 0 1 = cc in absurd (omega arith)
-
-pub take_min : (n : ℕ) (xs : List ℕ) → take (min (length xs) n) xs ≡ take n xs
-take_min n xs =
-    elim (cases_lt n (length xs)) [
-      | inl h ↦ ap (λ (k : ℕ). take k xs) (omega arith)
-      | inr h ↦ take_all (min (length xs) n) xs (omega arith) ∙ sym (take_all n xs h)
-    ]

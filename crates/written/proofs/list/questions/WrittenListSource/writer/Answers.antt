@@ -1,43 +1,14 @@
-use Rattle.std.proofs.Common.{get_or, sym, ◌∙◌, arith}
-use Rattle.std.proofs.lemmas.List.{length-map}
-use Rattle.std.proofs.lemmas.Bool.{eq-eqb}
-use Rattle.records.specs.Meaning.{row_instance}
-use Rattle.written.proofs.Rows.{blank, earlier_no, earlier_yes, row_writes}
-use Rattle.sources.proofs.Writers.{earlier_none, earlier_past, writer_absent, writer_from}
-use Rattle.written.specs.Meaning.{rows_list}
+use Rattle.std.proofs.Common.{◌≡◌, ℕ, eqb, ◌∙◌, rules, tests}
+use Rattle.std.proofs.lemmas.Iterator.{YieldsList-from_slice}
+use Rattle.std.proofs.lemmas.Iterator.Consumers.{YieldsList-at, YieldsList-from_enumerate, YieldsList-from_filter, nth_from_yields_List}
+use Rattle.std.specs.Option.{option_map}
+use Rattle.records.specs.declared.row.Row.{Row}
+use Rattle.written.proofs.Rows.{writer_found}
 use Rattle.written.proofs.list.questions.WrittenListSource.writer.Goals as goal
-use Rattle.written.proofs.list.questions.WrittenListSource.writer.Goals.{then-row-cell+else-seen-count, else-row-cell}
-
-pub loop-position-init : goal.loop-position-init
-loop-position-init c = (sym (earlier_none c.args.cell (rows_list c.args.self.now)), omega arith)
-
-pub returns-then-seen-count : goal.returns-then-seen-count
-returns-then-seen-count c =
-    let rows = c.args.self.now.rows.now in
-    let p = c.loop-position.position in
-    let writes = row_writes c.args.cell rows p blank c.loop-position-test.true ∙ eq-eqb (get_or rows p blank).written c.args.cell c.if-row-cell.true in
-    sym (writer_from (rows_list c.args.self.now) c.args.cell c.args.count p writes (sym c.loop-position.invariant.0 ∙ c.if-seen-count.true))
-
-pub overflow_add-seen : goal.overflow_add-seen
-overflow_add-seen c = omega (arith, c.loop-position.invariant.1)
-
-pub loop-position-preserved : goal.loop-position-preserved
-loop-position-preserved c =
-    let rows = c.args.self.now.rows.now in
-    let p = c.loop-position.position in
-    elim c.if-row-cell.branch [
-      | then-row-cell+else-seen-count w ↦ (
-        omega (arith, w.seen-is, c.loop-position.invariant.0, earlier_yes c.args.cell rows p blank c.loop-position-test.true w.if-row-cell.true),
-        omega (arith, w.seen-is, c.loop-position.invariant.1, w.if-seen-count.false),
-      )
-      | else-row-cell w ↦ (
-        omega (arith, w.seen-is, c.loop-position.invariant.0, earlier_no c.args.cell rows p blank c.loop-position-test.true w.if-row-cell.false),
-        omega (arith, w.seen-is, c.loop-position.invariant.1),
-      )
-    ]
 
 pub returns : goal.returns
 returns c =
-    let l = rows_list c.args.self.now in
-    let all = earlier_past c.args.cell c.loop-position.position l (omega (arith, length-map c.args.self.now.rows.now row_instance)) in
-    sym (writer_absent c.args.cell c.args.count l (omega (arith, all, c.loop-position.invariant.0, c.loop-position.invariant.1)))
+    let rows = c.args.self.now.rows.now in
+    let shown : c.map.result ≡ option_map (λ x. x.0) c.nth.result = search rules in
+    shown
+    ∙ writer_found c.args.cell c.args.count rows c.nth.result (nth_from_yields_List c.nth.result c.nth.new.self c.args.count c.nth.ensures.ran (YieldsList-from_filter _ (λ (x : ℕ × Row). eqb x.1.written c.args.cell) (YieldsList-at c.filter.ensures.source (YieldsList-from_enumerate (YieldsList-at c.enumerate.ensures.source (YieldsList-from_slice rows cc)) (cc))) c.filter.ensures.closure (λ x b r k. search (rules, tests))))
