@@ -2,28 +2,22 @@
 use Rattle.std.proofs.Common.{count_by, filter, Bor, ◌≡◌, ℕ, zero, suc, ◌+◌, ◌<◌, ◌≤◌, min, Bool, true, false, cond, not, eqb, ltb, List, [], ◌∷◌, map, length, get_or, take, Some, None, Ok, Err, Option, Result, unwrap_or, sym, refl, ap, ◌∙◌, inl, inr, add-zero, add-one, arith}
 use Rattle.std.proofs.lemmas.List.{length-map}
 use Rattle.std.proofs.lemmas.List.{length-take-le, take_all, take-map}
-use Rattle.std.proofs.lemmas.Option.{get_or_from_slice_get, none-some, slice_get-get_or, slice_get_within}
+use Rattle.std.proofs.lemmas.Option.{none-some, slice_get-get_or}
 use Rattle.std.proofs.lemmas.Bool.{cases_lt, eq-eqb, ne_eqb, not-false}
 use Rattle.std.specs.Option.{option_map}
-use Rattle.std.specs.Result.{result_ok}
 use Rattle.std.proofs.lemmas.List.Quantifiers.{position-Some}
-use Rattle.std.proofs.lemmas.List.Sums.{fails_before_first, length-filter, sum_by-cons}
+use Rattle.std.proofs.lemmas.List.Sums.{count_by_more_no, count_by_more_yes, fails_before_first, length-filter, sum_by-cons}
 use Rattle.std.proofs.lemmas.List.Filters.{length-filter_more}
 use Rattle.std.specs.List.{AllPass, enumerate_from, position_or_len, slice_get}
 use Rattle.records.specs.Instance.{Instance}
-use Rattle.records.specs.Making.{judged_row, result_map}
-use Rattle.records.specs.Meaning.{instance, row_instance}
-use Rattle.records.specs.declared.fault.RecordFault.{RecordFault}
-use Rattle.records.specs.declared.fault.RecordFault.TheVariants.{Operator, Reads}
-use Rattle.records.specs.declared.record.Record.{Record}
+use Rattle.records.specs.Meaning.{row_instance}
 use Rattle.records.specs.declared.row.Row.{Row}
 use Rattle.sources.proofs.Items.{nth_map}
 use Rattle.sources.proofs.Readers.{version_slots}
-use Rattle.sources.proofs.Totals.{total_more, total_same}
+use Rattle.sources.proofs.Totals.{total_more}
 use Rattle.sources.proofs.Writers.{earlier_next, earlier_none, earlier_past, writer_absent, writer_from}
 use Rattle.sources.specs.Numbers.{total}
-use Rattle.sources.specs.Questions.{earlier, slots_at, slots_of, writer, writes, writes_at}
-use Rattle.written.specs.Sound.{passed}
+use Rattle.sources.specs.Questions.{earlier, slots_at, slots_of, writer, writes_at}
 use Rattle.written.specs.Rows.{first_misfit, row_fits}
 
 -- the row that stands for none
@@ -40,32 +34,6 @@ row_writes c rows p d h = ap (λ (o : Option Instance). unwrap_or (option_map (�
 pub row_slots : (c : ℕ) (rows : List Row) (p : ℕ) (d : Row) → p < length rows → slots_at c (map row_instance rows) p ≡ slots_of c (row_instance (get_or rows p d))
 row_slots c rows p d h = ap (λ (o : Option Instance). unwrap_or (option_map (slots_of c) o) 0) (row_at rows p d h)
 
-row_step : (c : ℕ) (rows : List Row) (p : ℕ) (d : Row) (t : Bool) → p < length rows → eqb (get_or rows p d).written c ≡ t → earlier c (p + 1) (map row_instance rows) ≡ earlier c p (map row_instance rows) + cond t 1 0
-row_step c rows p d t h e =
-    ap (λ (k : ℕ). earlier c k (map row_instance rows)) (add-one p)
-    ∙ (earlier_next c p (map row_instance rows)
-    ∙ ap (λ (s : Bool). earlier c p (map row_instance rows) + cond s 1 0) (row_writes c rows p d h ∙ e))
-
--- one row more, which writes c, or does not
-pub earlier_yes : (c : ℕ) (rows : List Row) (p : ℕ) (d : Row) → p < length rows → (get_or rows p d).written ≡ c → earlier c (p + 1) (map row_instance rows) ≡ earlier c p (map row_instance rows) + 1
-earlier_yes c rows p d h e = row_step c rows p d true h (eq-eqb (get_or rows p d).written c e)
-
-pub earlier_no : (c : ℕ) (rows : List Row) (p : ℕ) (d : Row) → p < length rows → ((get_or rows p d).written ≡ c → ⊥) → earlier c (p + 1) (map row_instance rows) ≡ earlier c p (map row_instance rows)
-earlier_no c rows p d h e = row_step c rows p d false h (ne_eqb (get_or rows p d).written c e) ∙ add-zero (earlier c p (map row_instance rows))
-
--- one row more, which has version v, or does not
-readers_step : (c v : ℕ) (rows : List Row) (p : ℕ) (d : Row) (t : Bool) → p < length rows → eqb (earlier c p (map row_instance rows)) v ≡ t → total (version_slots c v (map row_instance rows)) (p + 1) ≡ total (version_slots c v (map row_instance rows)) p + cond t (slots_of c (row_instance (get_or rows p d))) 0
-readers_step c v rows p d t h e =
-    total_more (version_slots c v (map row_instance rows)) p
-    ∙ (ap (λ (s : Bool). total (version_slots c v (map row_instance rows)) p + cond s (slots_at c (map row_instance rows) p) 0) e
-    ∙ ap (λ (n : ℕ). total (version_slots c v (map row_instance rows)) p + cond t n 0) (row_slots c rows p d h))
-
-pub readers_yes : (c v : ℕ) (rows : List Row) (p : ℕ) (d : Row) → p < length rows → earlier c p (map row_instance rows) ≡ v → total (version_slots c v (map row_instance rows)) (p + 1) ≡ total (version_slots c v (map row_instance rows)) p + slots_of c (row_instance (get_or rows p d))
-readers_yes c v rows p d h e = readers_step c v rows p d true h (eq-eqb (earlier c p (map row_instance rows)) v e)
-
-pub readers_no : (c v : ℕ) (rows : List Row) (p : ℕ) (d : Row) → p < length rows → (earlier c p (map row_instance rows) ≡ v → ⊥) → total (version_slots c v (map row_instance rows)) (p + 1) ≡ total (version_slots c v (map row_instance rows)) p
-readers_no c v rows p d h e = readers_step c v rows p d false h (ne_eqb (earlier c p (map row_instance rows)) v e) ∙ add-zero (total (version_slots c v (map row_instance rows)) p)
-
 -- the earlier writes, counted in the rows
 pub earlier_counted : (c p : ℕ) (rows : List Row) → earlier c p (map row_instance rows) ≡ count_by (λ r. eqb r.written c) (take p rows)
 earlier_counted c zero rows = earlier_none c (map row_instance rows)
@@ -80,7 +48,7 @@ earlier_counted c (suc p) rows =
         ap (λ k. count_by q (take k rows)) (add-one p),
         length-filter q (take (p + 1) rows),
         length-filter q (take p rows),
-        length-filter_more q rows p blank h
+        length-filter_more q rows p blank h,
       )
       | inr h ↦ omega (
         arith,
@@ -88,9 +56,19 @@ earlier_counted c (suc p) rows =
         earlier_past c p (map row_instance rows) (omega (arith, length-map rows row_instance)),
         earlier_counted c p rows,
         ap (count_by q) (take_all p rows h),
-        ap (count_by q) (take_all (suc p) rows (omega arith))
+        ap (count_by q) (take_all (suc p) rows (omega arith)),
       )
     ]
+
+-- one row more
+pub readers_more : (c v : ℕ) (rows : List Row) (p : ℕ) (d : Row) → p < length rows → total (version_slots c v (map row_instance rows)) (p + 1) ≡ total (version_slots c v (map row_instance rows)) p + cond (eqb (count_by (λ r. eqb r.written c) (take p rows)) v) (slots_of c (row_instance (get_or rows p d))) 0
+readers_more c v rows p d h =
+    total_more (version_slots c v (map row_instance rows)) p
+    ∙ (ap (λ (k : ℕ). total (version_slots c v (map row_instance rows)) p + cond (eqb k v) (slots_at c (map row_instance rows) p) 0) (earlier_counted c p rows)
+    ∙ ap (λ (n : ℕ). total (version_slots c v (map row_instance rows)) p + cond (eqb (count_by (λ r. eqb r.written c) (take p rows)) v) n 0) (row_slots c rows p d h))
+
+-- what `readers` stands on at one row more and at the end
+pub ruleset row_steps = (readers_more, eq-eqb, ne_eqb, count_by_more_yes, count_by_more_no, length-map)
 
 -- x stands at j and passes, after k others that do
 abbrev pub StandsAt : {X : Type 0} (p : X → Bool) (xs : List X) (k : ℕ) (x : X) (j : ℕ) → Type 0
@@ -106,6 +84,7 @@ stands_enumerated {X} p n (y ∷ ys) k i x e = step (p y) k refl (λ k. stands_e
   where
     rest : List (ℕ × X)
     rest = filter (λ (z : ℕ × X). p z.1) (enumerate_from (n + 1) ys)
+
     step : (t : Bool) (k : ℕ) → p y ≡ t → ((k : ℕ) → slice_get rest k ≡ Some (i, x) → (j : ℕ) × (i ≡ (n + 1) + j) × StandsAt p ys k x j) → slice_get (cond t ((n, y) ∷ rest) rest) k ≡ Some (i, x) → (j : ℕ) × (i ≡ n + j) × StandsAt p (y ∷ ys) k x j
     step true zero is more e =
         let same : (n, y) ≡ (i, x) = ap (λ (o : Option (ℕ × X)). unwrap_or o (n, y)) e in
@@ -121,7 +100,7 @@ count_enumerated {X} p n (x ∷ xs) =
       arith,
       sum_by-cons (λ (y : ℕ × X). cond (p y.1) 1 0) (n, x) (enumerate_from (n + 1) xs),
       sum_by-cons (λ x. cond (p x) 1 0) x xs,
-      count_enumerated p (n + 1) xs
+      count_enumerated p (n + 1) xs,
     )
 
 nth_none : {X : Type 0} (xs : List X) (k : ℕ) → slice_get xs k ≡ None → length xs ≤ k
@@ -140,23 +119,12 @@ writer_found c k rows None e =
       length-filter (λ (x : ℕ × Row). q x.1) (enumerate_from 0 rows),
       count_enumerated q 0 rows,
       earlier_counted c (length l) rows,
-      ap (count_by q) (take_all (length l) rows (omega (arith, length-map rows row_instance)))
+      ap (count_by q) (take_all (length l) rows (omega (arith, length-map rows row_instance))),
     )))
 writer_found c k rows (Some x) e =
     let (j, at, h) = stands_enumerated (λ (r : Row). eqb r.written c) 0 rows k x.0 x.1.now (sym e) in
     let writes = ap (λ (o : Option Instance). unwrap_or (option_map (λ (i : Instance). eqb i.written c) o) false) (nth_map row_instance rows j ∙ ap (option_map row_instance) h.0) ∙ h.1 in
     ap Some (omega arith) ∙ sym (writer_from (map row_instance rows) c k j writes (earlier_counted c j rows ∙ h.2))
-
--- what a row that fits means as a record
-pub fits_judged : (C : ℕ) (r : Row) → row_fits C r ≡ true → judged_row r ≡ Ok (row_instance r)
-fits_judged C r e =
-    let p = passed C r e in
-    ap (λ (t : Bool). cond t (Err Operator) (cond (ltb 5 r.count) (Err Reads) (Ok (row_instance r)))) p.small
-    ∙ ap (λ (t : Bool). cond t (Err Reads) (Ok (row_instance r))) p.few
-
--- an element that is there passes where all do
-pub passed_there : {X : Type 0} (p : X → Bool) (xs : List X) (i : ℕ) (x : X) → AllPass p xs → slice_get xs i ≡ Some x → p x ≡ true
-passed_there p xs i x h e = sym (ap p (get_or_from_slice_get xs i x x e)) ∙ h i x (slice_get_within xs i x e)
 
 -- where no row is found that does not fit, all do
 pub all_rows_fit : (C : ℕ) (rows : List Row) → first_misfit C rows ≡ None → AllPass (row_fits C) rows
@@ -168,7 +136,3 @@ all_rows_fit C rows e k d l = not-false (row_fits C (get_or rows k d)) (fails_be
 -- a misfit is one of the rows
 pub misfit_below : (C : ℕ) (rows : List Row) (p : ℕ) → first_misfit C rows ≡ Some p → p < length rows
 misfit_below C rows p e = (position-Some (λ r. not (row_fits C r)) rows p blank e).0
-
-pub ok_meant : (r : Result Record RecordFault) (i : Instance) → result_map instance r ≡ Ok i → option_map instance (result_ok r) ≡ Some i
-ok_meant (Ok x) i e = cc
-ok_meant (Err f) i e = let z : ◌≡◌ {A = ℕ} 0 1 = cc in absurd (omega arith)

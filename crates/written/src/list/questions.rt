@@ -25,6 +25,7 @@ impl Source for WrittenList<'_> {
         self.rows.len() as u32
     }
 
+    #[tactic(auto, using(sources::proofs::Items::nth_map, sources::proofs::Items::item_nth))]
     fn record_at(&self, position: u32) -> Option<Record> {
         let row = self.rows.get(position as usize)?;
         Record::try_from(*row).ok()
@@ -47,6 +48,7 @@ impl Source for WrittenList<'_> {
             .count() as u32
     }
 
+    #[tactic(auto, using(crate::proofs::Rows::row_steps), unfolding(sources::specs::Questions::readers, sources::specs::Numbers::total))]
     fn readers(&self, cell: u16, version: u32) -> u32 {
         let mut seen = 0;
         let mut readers = 0;
