@@ -38,11 +38,6 @@ none_misfits (Some p) = Err (Misfit (p + 1))
 abbrev pub rows_judged : ℕ → List Row → Result (Unit {0}) RowsFault
 rows_judged C rows = if nat_lt 8192 (length rows) then Err TooMany else if cells_fit C then none_misfits (first_misfit C rows) else Err Cells
 
--- what is held after an answer: the new, or after a refusal the old
-abbrev pub held_after : {A : Type 0} → Result (Unit {0}) RowsFault → A → A → A
-held_after (Ok x) new old = new
-held_after (Err e) new old = old
-
 -- the number of each refusal
 abbrev pub number_of : RowsFault → ℕ
 number_of TooMany = 21

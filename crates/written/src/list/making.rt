@@ -1,8 +1,9 @@
 //! Rows become a written list.
-ghost use Rattle.std.specs.Prelude.{◌≡◌, [], map};
-ghost use Rattle.std.specs.Result.{IfOk, result_map_both};
+ghost use Rattle.std.specs.Prelude.{◌≡◌, if◌then◌else◌, [], map};
+ghost use Rattle.std.specs.Result.{IfOk, is_ok};
+ghost use Rattle.records.specs.Making.{result_map};
 ghost use Rattle.records.specs.Meaning.{row_instance};
-ghost use Rattle.written.specs.Rows.{all_below, first_misfit, held_after, row_fits, rows_judged};
+ghost use Rattle.written.specs.Rows.{all_below, first_misfit, row_fits, rows_judged};
 ghost use Rattle.written.specs.Meaning.{rows_list};
 
 use crate::fault::RowsFault;
@@ -25,12 +26,12 @@ impl<'a> WrittenList<'a> {
         }
     }
 
-    #[tactic(auto, using(crate::proofs::Rows::all_rows_fit, crate::proofs::Rows::misfit_below))]
     /// The list of these cells and rows, or the first reason why they are none.
+    #[tactic(auto, using(crate::proofs::Rows::all_rows_fit, crate::proofs::Rows::misfit_below))]
     pub fn from_rows(cells: u16, rows: &'a [Row]) -> Result<WrittenList<'a>, RowsFault>
-        ensures answer { result_map_both (λ _. tt) (λ e. e) result ≡ rows_judged cells rows.now }
-        ensures cells { IfOk result (λ w. w.cells ≡ cells) }
-        ensures list { IfOk result (λ w. rows_list w ≡ map row_instance rows.now) }
+        ensures answer { result_map (λ _. tt) result ≡ rows_judged cells rows.now }
+        ensures cells { IfOk result (λ made. made.cells ≡ cells) }
+        ensures list { IfOk result (λ made. rows_list made ≡ map row_instance rows.now) }
     {
         if rows.len() > MOST_ROWS {
             return Err(RowsFault::TooMany);
@@ -47,8 +48,8 @@ impl<'a> WrittenList<'a> {
     /// Takes these cells and rows in place of its own; a refusal leaves the list as it was.
     pub fn load(&mut self, cells: u16, rows: &'a [Row]) -> Result<(), RowsFault>
         ensures answer { result ≡ rows_judged cells rows.now }
-        ensures cells { self.new.cells ≡ held_after result cells self.old.cells }
-        ensures list { rows_list self.new ≡ held_after result (map row_instance rows.now) (rows_list self.old) }
+        ensures cells { self.new.cells ≡ (if is_ok result then cells else self.old.cells) }
+        ensures list { rows_list self.new ≡ (if is_ok result then map row_instance rows.now else rows_list self.old) }
     {
         *self = WrittenList::from_rows(cells, rows)?;
         Ok(())
