@@ -147,12 +147,13 @@ fn show<S: Source>(rt: &HostRuntime, name: &str, source: &S) -> io::Result<()> {
 
 /// Prints what a list of rows answers, the list twice over, and that with another list after it.
 fn show_layers(rt: &HostRuntime, rows: &[Row], last: &[Row]) -> anyhow::Result<()> {
-    let mut list = WrittenList::new();
-    let mut other = WrittenList::new();
-    if list.load(3, rows).is_err() || other.load(4, last).is_err() {
+    let (Ok(list), Ok(other)) = (
+        WrittenList::from_rows(3, rows),
+        WrittenList::from_rows(4, last),
+    ) else {
         println!(rt; "these rows are no list")?;
         return Ok(());
-    }
+    };
     let twice = Rounds::new(list, 2);
     show(rt, "list", &list)?;
     show(rt, "rounds of 2", &twice)?;

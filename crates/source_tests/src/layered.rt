@@ -65,12 +65,9 @@ where
 /// The first two rows, the three after them, and all that these mean in layers.
 fn check_rows(rt: &impl Abort, rows: &[Row]) -> Result<(), Fail> {
     assert!(rt; rows.len() == 21);
-    let mut a = WrittenList::new();
-    a.load(2, &rows[0..2])?;
-    let mut b = WrittenList::new();
-    b.load(3, &rows[2..5])?;
-    let mut plain = WrittenList::new();
-    plain.load(3, &rows[5..21])?;
+    let a = WrittenList::from_rows(2, &rows[0..2])?;
+    let b = WrittenList::from_rows(3, &rows[2..5])?;
+    let plain = WrittenList::from_rows(3, &rows[5..21])?;
     check_deep(rt, &a, &b, &plain)
 }
 
@@ -87,8 +84,7 @@ fn three_deep(rt: HostRuntime) -> Result<(), Fail> {
 fn a_shift_twice_over(rt: HostRuntime) -> Result<(), Fail> {
     // Cells 0, 1 and 2 get cells 1, 2 and 3.
     let rows = [copy(0, 1), copy(1, 2), copy(2, 3)];
-    let mut list = WrittenList::new();
-    list.load(4, &rows)?;
+    let list = WrittenList::from_rows(4, &rows)?;
     assert_eq!(rt; list.cells(), 4);
     assert_eq!(rt; list.length(), 3);
     let twice = Rounds::new(list, 2);
@@ -103,8 +99,7 @@ fn a_shift_twice_over(rt: HostRuntime) -> Result<(), Fail> {
 #[test]
 fn few_and_many_rounds(rt: HostRuntime) -> Result<(), Fail> {
     let rows = [OWN, COPY, FIVE];
-    let mut list = WrittenList::new();
-    list.load(3, &rows)?;
+    let list = WrittenList::from_rows(3, &rows)?;
     let none = WrittenList::new();
     same(&rt, &Rounds::new(list, 0), &none)?;
     same(&rt, &Rounds::new(list, 1), &list)?;
@@ -135,18 +130,15 @@ fn check_empty(rt: &impl Abort, none: WrittenList, list: WrittenList) -> Result<
 fn empty_lists(rt: HostRuntime) -> Result<(), Fail> {
     let none = WrittenList::new();
     let rows = [OWN, COPY];
-    let mut list = WrittenList::new();
-    list.load(2, &rows)?;
+    let list = WrittenList::from_rows(2, &rows)?;
     check_empty(&rt, none, list)
 }
 
 #[test]
 fn two_lists_that_just_fit(rt: HostRuntime) -> Result<(), Fail> {
     let (one, two) = ([SET], [FIVE]);
-    let mut set = WrittenList::new();
-    set.load(1, &one)?;
-    let mut five = WrittenList::new();
-    five.load(4, &two)?;
+    let set = WrittenList::from_rows(1, &one)?;
+    let five = WrittenList::from_rows(4, &two)?;
     let fits = After::new(Rounds::new(set, 65534), five);
     assert_eq!(rt; fits.length(), 65535);
     assert_eq!(rt; fits.cells(), 4);
