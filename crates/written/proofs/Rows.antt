@@ -21,17 +21,17 @@ use Rattle.sources.specs.Questions.{earlier, slots_at, slots_of, writer, writes_
 use Rattle.written.specs.Rows.{first_misfit, row_fits}
 
 -- the row that stands for none
-abbrev pub blank : Row
+abbrev blank : Row
 blank = record { operator = 0; written = 0; count = 0; reads = [] }
 
 -- the instance that the row at p means
-pub row_at : (rows : List Row) (p : ℕ) (d : Row) → p < length rows → slice_get (map row_instance rows) p ≡ Some (row_instance (get_or rows p d))
-row_at rows p d h = slice_get-map row_instance rows p ∙ ap (option_map row_instance) (slice_get-get_or rows p d h)
+row_at : (rows : List Row) (p : ℕ) (d : Row) → p < length rows → slice_get (map row_instance rows) p ≡ Some (row_instance (get_or rows p d))
+row_at rows p d h = nth_map row_instance rows p ∙ ap (option_map row_instance) (slice_get-get_or rows p d h)
 
-pub row_writes : (c : ℕ) (rows : List Row) (p : ℕ) (d : Row) → p < length rows → writes_at c (map row_instance rows) p ≡ eqb (get_or rows p d).written c
+row_writes : (c : ℕ) (rows : List Row) (p : ℕ) (d : Row) → p < length rows → writes_at c (map row_instance rows) p ≡ eqb (get_or rows p d).written c
 row_writes c rows p d h = ap (λ (o : Option Instance). unwrap_or (option_map (λ (i : Instance). eqb i.written c) o) false) (row_at rows p d h)
 
-pub row_slots : (c : ℕ) (rows : List Row) (p : ℕ) (d : Row) → p < length rows → slots_at c (map row_instance rows) p ≡ slots_of c (row_instance (get_or rows p d))
+row_slots : (c : ℕ) (rows : List Row) (p : ℕ) (d : Row) → p < length rows → slots_at c (map row_instance rows) p ≡ slots_of c (row_instance (get_or rows p d))
 row_slots c rows p d h = ap (λ (o : Option Instance). unwrap_or (option_map (slots_of c) o) 0) (row_at rows p d h)
 
 -- the earlier writes, counted in the rows
@@ -60,25 +60,25 @@ earlier_counted c (suc p) rows =
       )
     ]
 
--- one row more
+-- the readers in the first rows, at one row more
 pub readers_more : (c v : ℕ) (rows : List Row) (p : ℕ) (d : Row) → p < length rows → total (version_slots c v (map row_instance rows)) (p + 1) ≡ total (version_slots c v (map row_instance rows)) p + cond (eqb (count_by (λ r. eqb r.written c) (take p rows)) v) (slots_of c (row_instance (get_or rows p d))) 0
 readers_more c v rows p d h =
     total_more (version_slots c v (map row_instance rows)) p
     ∙ (ap (λ (k : ℕ). total (version_slots c v (map row_instance rows)) p + cond (eqb k v) (slots_at c (map row_instance rows) p) 0) (earlier_counted c p rows)
     ∙ ap (λ (n : ℕ). total (version_slots c v (map row_instance rows)) p + cond (eqb (count_by (λ r. eqb r.written c) (take p rows)) v) n 0) (row_slots c rows p d h))
 
--- what `readers` stands on at one row more and at the end
+-- what `length` and `readers` stand on: one row more, and the end
 pub ruleset row_steps = (readers_more, eq-eqb, ne_eqb, count_by_more_yes, count_by_more_no, length-map)
 
 -- x stands at j and passes, after k others that do
-abbrev pub StandsAt : {X : Type 0} (p : X → Bool) (xs : List X) (k : ℕ) (x : X) (j : ℕ) → Type 0
+abbrev StandsAt : {X : Type 0} (p : X → Bool) (xs : List X) (k : ℕ) (x : X) (j : ℕ) → Type 0
 StandsAt p xs k x j = (slice_get xs j ≡ Some x) × (p x ≡ true) × (count_by p (take j xs) ≡ k)
 
 stands_later : {X : Type 0} (p : X → Bool) (y : X) (ys : List X) (k m : ℕ) (x : X) (j : ℕ) → StandsAt p ys m x j → cond (p y) 1 0 + m ≡ k → StandsAt p (y ∷ ys) k x (suc j)
 stands_later p y ys k m x j (there, passes, before) e = (there, passes, omega (arith, e, before, sum_by-cons (λ x. cond (p x) 1 0) y (take j ys)))
 
 -- the k-th that passes, of a list with its places from n
-pub stands_enumerated : {X : Type 0} (p : X → Bool) (n : ℕ) (xs : List X) (k i : ℕ) (x : X) → slice_get (filter (λ (y : ℕ × X). p y.1) (enumerate_from n xs)) k ≡ Some (i, x) → (j : ℕ) × (i ≡ n + j) × StandsAt p xs k x j
+stands_enumerated : {X : Type 0} (p : X → Bool) (n : ℕ) (xs : List X) (k i : ℕ) (x : X) → slice_get (filter (λ (y : ℕ × X). p y.1) (enumerate_from n xs)) k ≡ Some (i, x) → (j : ℕ) × (i ≡ n + j) × StandsAt p xs k x j
 stands_enumerated p n [] k i x e = absurd (none-some (i, x) e)
 stands_enumerated {X} p n (y ∷ ys) k i x e = step (p y) k refl (λ k. stands_enumerated p (n + 1) ys k i x) e
   where

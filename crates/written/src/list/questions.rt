@@ -21,6 +21,7 @@ impl Source for WrittenList<'_> {
         self.cells
     }
 
+    #[tactic(auto, using(crate::proofs::Rows::row_steps))]
     fn length(&self) -> u32 {
         self.rows.len() as u32
     }
