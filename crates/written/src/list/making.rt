@@ -67,10 +67,9 @@ fn first_misfit(cells: u16, rows: &[Row]) -> Option<usize>
 fn row_fits(cells: u16, row: &Row) -> bool
     ensures { result ≡ row_fits cells row.now }
 {
-    let Ok(record) = Record::try_from(*row) else {
-        return false;
-    };
-    record.written() < cells && all_below(cells, record.reads())
+    Record::try_from(*row).is_ok_and(|record| {
+        record.written() < cells && all_below(cells, record.reads())
+    })
 }
 
 /// Are all of these below `limit`?
