@@ -6,6 +6,7 @@ use records::{MOST_READS, Row};
 use sources::{Counts, Parts, Source};
 use std::fmt::Display;
 use std::io;
+use std::io::Print;
 use written::WrittenList;
 
 /// Rows over cells 0 to 2. The second reads the cell that it writes in two slots, the third in one.
@@ -45,7 +46,7 @@ const LAST: [Row; 1] = [Row {
 }];
 
 /// Prints a space and a number, or a dash where there is none.
-fn show_number<N: Display + Drop>(rt: &HostRuntime, number: Option<N>) -> io::Result<()> {
+fn show_number<N: Display + Drop>(rt: &impl Print, number: Option<N>) -> io::Result<()> {
     match number {
         Some(number) => print!(rt; " {number}"),
         None => print!(rt; " -"),
@@ -53,7 +54,7 @@ fn show_number<N: Display + Drop>(rt: &HostRuntime, number: Option<N>) -> io::Re
 }
 
 /// Prints what is answered at each number from 0 to the last.
-fn show_each<F: Fn(u32) -> Option<u32>>(rt: &HostRuntime, last: u32, answer: F) -> io::Result<()>
+fn show_each<F: Fn(u32) -> Option<u32>>(rt: &impl Print, last: u32, answer: F) -> io::Result<()>
     requires { F.IsAlwaysCallable answer }
 {
     for number in 0..=last {
@@ -64,12 +65,12 @@ fn show_each<F: Fn(u32) -> Option<u32>>(rt: &HostRuntime, last: u32, answer: F) 
 
 /// A source, and where its answers are printed.
 #[derive(Clone, Copy)]
-struct Shown<'a, S> {
-    rt: &'a HostRuntime,
+struct Shown<'a, P, S> {
+    rt: &'a P,
     source: &'a S,
 }
 
-impl<S: Source> Shown<'_, S> {
+impl<P: Print, S: Source> Shown<'_, P, S> {
     /// Prints the cell in each slot of the instance at a position.
     fn slots(&self, position: u32) -> io::Result<()> {
         print!(self.rt; ", slots")?;
@@ -141,12 +142,12 @@ impl<S: Source> Shown<'_, S> {
 }
 
 /// Prints all that a source answers.
-fn show<S: Source>(rt: &HostRuntime, name: &str, source: &S) -> io::Result<()> {
+fn show<S: Source>(rt: &impl Print, name: &str, source: &S) -> io::Result<()> {
     Shown { rt, source }.whole(name)
 }
 
 /// Prints what a list of rows answers, the list twice over, and that with another list after it.
-fn show_layers(rt: &HostRuntime, rows: &[Row], last: &[Row]) -> anyhow::Result<()> {
+fn show_layers(rt: &impl Print, rows: &[Row], last: &[Row]) -> anyhow::Result<()> {
     let (Ok(list), Ok(other)) = (
         WrittenList::from_rows(3, rows),
         WrittenList::from_rows(4, last),

@@ -2,17 +2,18 @@
 #![tactic(auto)]
 
 use listing::Listing;
-use std::fs::File;
+use std::alloc::Global;
+use std::fs::{File, Files};
 use std::io;
-use std::io::{ErrorKind, Read};
+use std::io::{ErrorKind, Print, Read};
 
 /// Where the trace lies.
 const TRACE: &str = "order.bin";
 
 /// The first bytes of a file, `most` at the most; none where there is no such file.
-fn read_front(rt: &HostRuntime, path: &str, most: u64) -> io::Result<Vec<u8>> {
-    let mut bytes = Vec::new(rt.alloc());
-    match File::open(rt, path) {
+fn read_front(files: &impl Files, alloc: Global, path: &str, most: u64) -> io::Result<Vec<u8>> {
+    let mut bytes = Vec::new(alloc);
+    match File::open(files, path) {
         Ok(file) => {
             let _ = file.take(most).read_to_end(&mut bytes)?;
         }
@@ -23,12 +24,12 @@ fn read_front(rt: &HostRuntime, path: &str, most: u64) -> io::Result<Vec<u8>> {
 }
 
 /// Prints the listing of the trace. What lies past the bytes that tell it is left unread.
-fn show(rt: &HostRuntime) -> anyhow::Result<()> {
-    let trace = read_front(rt, TRACE, Listing::bytes_needed())?;
+fn show(rt: &(impl Files + Print), alloc: Global) -> anyhow::Result<()> {
+    let trace = read_front(rt, alloc, TRACE, Listing::bytes_needed())?;
     rt.print(Listing::new(trace.as_slice()))?;
     Ok(())
 }
 
 fn main(rt: HostRuntime) -> anyhow::Result<()> {
-    show(&rt)
+    show(&rt, rt.alloc())
 }
