@@ -26,40 +26,40 @@ const FULL: Row = Row {
 struct Judged {
     cells: u16,
     rows: [Row; 3],
-    refused: Option<RowsFault>,
+    answer: Result<(), RowsFault>,
 }
 
 const JUDGED: [Judged; 11] = [
     Judged {
         cells: 1,
         rows: [PLAIN, PLAIN, PLAIN],
-        refused: None,
+        answer: Ok(()),
     },
     Judged {
         cells: 4096,
         rows: [FULL, FULL, FULL],
-        refused: None,
+        answer: Ok(()),
     },
     Judged {
         cells: 5,
         rows: [FULL, FULL, FULL],
-        refused: None,
+        answer: Ok(()),
     },
     Judged {
         cells: 0,
         rows: [PLAIN, PLAIN, PLAIN],
-        refused: Some(RowsFault::Cells),
+        answer: Err(RowsFault::Cells),
     },
     Judged {
         cells: 4097,
         rows: [FULL, FULL, FULL],
-        refused: Some(RowsFault::Cells),
+        answer: Err(RowsFault::Cells),
     },
     // A written cell that is not below the number of cells.
     Judged {
         cells: 4,
         rows: [PLAIN, FULL, FULL],
-        refused: Some(RowsFault::Misfit { row: 2 }),
+        answer: Err(RowsFault::Misfit { row: 2 }),
     },
     // A read cell that is not, in the last slot.
     Judged {
@@ -74,7 +74,7 @@ const JUDGED: [Judged; 11] = [
                 reads: [0, 1, 2, 3, 4],
             },
         ],
-        refused: Some(RowsFault::Misfit { row: 3 }),
+        answer: Err(RowsFault::Misfit { row: 3 }),
     },
     // The same cell past the reads means nothing.
     Judged {
@@ -89,7 +89,7 @@ const JUDGED: [Judged; 11] = [
                 reads: [0, 1, 2, 3, 4],
             },
         ],
-        refused: None,
+        answer: Ok(()),
     },
     // An operator over 15.
     Judged {
@@ -104,7 +104,7 @@ const JUDGED: [Judged; 11] = [
             FULL,
             FULL,
         ],
-        refused: Some(RowsFault::Misfit { row: 1 }),
+        answer: Err(RowsFault::Misfit { row: 1 }),
     },
     // Six reads.
     Judged {
@@ -119,7 +119,7 @@ const JUDGED: [Judged; 11] = [
             },
             FULL,
         ],
-        refused: Some(RowsFault::Misfit { row: 2 }),
+        answer: Err(RowsFault::Misfit { row: 2 }),
     },
     // The number of cells comes before the rows.
     Judged {
@@ -134,7 +134,7 @@ const JUDGED: [Judged; 11] = [
             FULL,
             FULL,
         ],
-        refused: Some(RowsFault::Cells),
+        answer: Err(RowsFault::Cells),
     },
 ];
 
@@ -143,20 +143,20 @@ fn judge(
     rt: &impl Abort,
     cells: u16,
     rows: &[Row],
-    refused: Option<RowsFault>,
+    answer: Result<(), RowsFault>,
 ) -> Result<(), Fail> {
     let mut list = WrittenList::new();
     assert!(rt; rows.len() == 4);
     list.load(5, &rows[0..1])?;
-    match list.load(cells, &rows[1..4]) {
+    let given = list.load(cells, &rows[1..4]);
+    assert_eq!(rt; given, answer);
+    match given {
         Ok(()) => {
-            assert_eq!(rt; refused, None);
             assert_eq!(rt; list.cells(), cells);
             assert_eq!(rt; list.length(), 3);
             Ok(())
         }
         Err(fault) => {
-            assert_eq!(rt; refused, Some(fault));
             assert_eq!(rt; fault.number(), 22);
             assert_eq!(rt; list.cells(), 5);
             assert_eq!(rt; list.length(), 1);
@@ -172,7 +172,7 @@ fn rows_are_judged(rt: HostRuntime) -> Result<(), Fail> {
     for case in &cases {
         let [a, b, c] = case.rows;
         let rows = [FULL, a, b, c];
-        judge(&rt, case.cells, &rows, case.refused)?;
+        judge(&rt, case.cells, &rows, case.answer)?;
     }
     Ok(())
 }
