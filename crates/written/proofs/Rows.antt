@@ -2,7 +2,7 @@
 use Rattle.std.proofs.Common.{count_by, filter, Bor, ◌≡◌, ℕ, zero, suc, ◌+◌, ◌<◌, ◌≤◌, min, Bool, true, false, cond, not, eqb, ltb, List, [], ◌∷◌, map, length, get_or, take, Some, None, Ok, Err, Option, Result, unwrap_or, sym, refl, ap, ◌∙◌, inl, inr, add-zero, add-one, arith}
 use Rattle.std.proofs.lemmas.List.{length-map}
 use Rattle.std.proofs.lemmas.List.{length-take-le, take_all, take-map}
-use Rattle.std.proofs.lemmas.Option.{none-some, slice_get-get_or}
+use Rattle.std.proofs.lemmas.Option.{none-some, slice_get-get_or, slice_get-map}
 use Rattle.std.proofs.lemmas.Bool.{cases_lt, eq-eqb, ne_eqb, not-false}
 use Rattle.std.specs.Option.{option_map}
 use Rattle.std.proofs.lemmas.List.Quantifiers.{position-Some}
@@ -12,7 +12,7 @@ use Rattle.std.specs.List.{AllPass, enumerate_from, position_or_len, slice_get}
 use Rattle.records.specs.Instance.{Instance}
 use Rattle.records.specs.Meaning.{row_instance}
 use Rattle.records.specs.declared.row.Row.{Row}
-use Rattle.sources.proofs.Items.{nth_map}
+use Rattle.sources.proofs.Items.{item_nth}
 use Rattle.sources.proofs.Readers.{version_slots}
 use Rattle.sources.proofs.Totals.{total_more}
 use Rattle.sources.proofs.Writers.{earlier_next, earlier_none, earlier_past, writer_absent, writer_from}
@@ -26,7 +26,7 @@ blank = record { operator = 0; written = 0; count = 0; reads = [] }
 
 -- the instance that the row at p means
 row_at : (rows : List Row) (p : ℕ) (d : Row) → p < length rows → slice_get (map row_instance rows) p ≡ Some (row_instance (get_or rows p d))
-row_at rows p d h = nth_map row_instance rows p ∙ ap (option_map row_instance) (slice_get-get_or rows p d h)
+row_at rows p d h = slice_get-map row_instance rows p ∙ ap (option_map row_instance) (slice_get-get_or rows p d h)
 
 row_writes : (c : ℕ) (rows : List Row) (p : ℕ) (d : Row) → p < length rows → writes_at c (map row_instance rows) p ≡ eqb (get_or rows p d).written c
 row_writes c rows p d h = ap (λ (o : Option Instance). unwrap_or (option_map (λ (i : Instance). eqb i.written c) o) false) (row_at rows p d h)
@@ -66,6 +66,9 @@ readers_more c v rows p d h =
     total_more (version_slots c v (map row_instance rows)) p
     ∙ (ap (λ (k : ℕ). total (version_slots c v (map row_instance rows)) p + cond (eqb k v) (slots_at c (map row_instance rows) p) 0) (earlier_counted c p rows)
     ∙ ap (λ (n : ℕ). total (version_slots c v (map row_instance rows)) p + cond (eqb (count_by (λ r. eqb r.written c) (take p rows)) v) n 0) (row_slots c rows p d h))
+
+-- what `record_at` stands on: the row at a place, and what it means
+pub ruleset row_gets = (item_nth, slice_get-map)
 
 -- what `length` and `readers` stand on: one row more, and the end
 pub ruleset row_steps = (readers_more, eq-eqb, ne_eqb, count_by_more_yes, count_by_more_no, length-map)
@@ -123,7 +126,7 @@ writer_found c k rows None e =
     )))
 writer_found c k rows (Some x) e =
     let (j, at, h) = stands_enumerated (λ (r : Row). eqb r.written c) 0 rows k x.0 x.1.now (sym e) in
-    let writes = ap (λ (o : Option Instance). unwrap_or (option_map (λ (i : Instance). eqb i.written c) o) false) (nth_map row_instance rows j ∙ ap (option_map row_instance) h.0) ∙ h.1 in
+    let writes = ap (λ (o : Option Instance). unwrap_or (option_map (λ (i : Instance). eqb i.written c) o) false) (slice_get-map row_instance rows j ∙ ap (option_map row_instance) h.0) ∙ h.1 in
     ap Some (omega arith) ∙ sym (writer_from (map row_instance rows) c k j writes (earlier_counted c j rows ∙ h.2))
 
 -- where no row is found that does not fit, all do

@@ -1,27 +1,47 @@
 -- A written list is sound.
-use Rattle.std.proofs.Common.{◌≡◌, ℕ, suc, ◌<◌, true, List, [], ◌∷◌, arith, length-take}
+use Rattle.std.specs.Prelude.{◌≡◌, ℕ, ◌<◌, ◌&&◌, All, List, false, length, map, nat_lt, true}
+use Rattle.std.proofs.Common.{arith, length-take}
 use Rattle.std.proofs.lemmas.List.{length-map}
 use Rattle.std.proofs.lemmas.List.Elements.{All-map}
 use Rattle.std.proofs.lemmas.List.Sums.{AllPass-from_list_all}
-use Rattle.std.specs.List.{All, AllByRecursion}
+use Rattle.std.proofs.lemmas.Bool.{and_parts, ltb-false, ltb-true}
+use Rattle.std.specs.List.{AllPass}
 use Rattle.records.specs.Meaning.{row_instance}
 use Rattle.records.specs.declared.row.Row.{Row}
 use Rattle.sources.specs.Sound.{Fitting, Sound}
-use Rattle.written.specs.Rows.{row_fits}
+use Rattle.written.specs.Rows.{all_below, row_fits}
 use Rattle.written.specs.Meaning.{rows_list}
 use Rattle.written.specs.declared.list.WrittenList.{WrittenList}
 
-by_recursion : {X : Type 0} (P : X → Type 0) (xs : List X) → All P xs → AllByRecursion P xs
-by_recursion P [] h = tt
-by_recursion P (x ∷ xs) h = (h 0 x (omega arith), by_recursion P xs (λ k d l. h (suc k) d (omega arith)))
+-- cells that pass the test are below C
+below_all : (C : ℕ) (cs : List ℕ) → all_below C cs ≡ true → All (λ c. c < C) cs
+below_all C cs e = λ k d l. grind (arith, AllPass-from_list_all)
+
+-- what a row that fits passed
+pub record Passed (C : ℕ) (r : Row) : Type 0 where
+  pub small : nat_lt 15 r.operator ≡ false
+  pub few : nat_lt 5 r.count ≡ false
+  pub cells : (nat_lt r.written C && all_below C (row_instance r).reads) ≡ true
+
+pub passed : (C : ℕ) (r : Row) → row_fits C r ≡ true → Passed C r
+passed C r e = record { small = grind arith; few = grind arith; cells = grind arith }
 
 fitting : (C : ℕ) (r : Row) → row_fits C r ≡ true → Fitting C (row_instance r)
 fitting C r e =
+    let p = passed C r e in
+    let (w, cs) = and_parts (nat_lt r.written C) (all_below C (row_instance r).reads) p.cells in
     record {
-      recordable = record { small = grind arith; few = grind (arith, length-take) };
-      written_below = grind arith;
-      reads_below = by_recursion (λ c. c < C) (row_instance r).reads (λ k d l. grind (arith, AllPass-from_list_all));
+      recordable = record {
+        small = ltb-false 15 r.operator p.small;
+        few = omega (arith, length-take r.count r.reads, ltb-false 5 r.count p.few);
+      };
+      written_below = ltb-true r.written C w;
+      reads_below = below_all C (row_instance r).reads cs;
     }
+
+-- where all rows fit, so do the instances that they mean
+all_fit : (C : ℕ) (rs : List Row) → AllPass (row_fits C) rs → All (Fitting C) (map row_instance rs)
+all_fit C rs h = All-map (Fitting C) row_instance rs (λ k d l. fitting C _ (h k d l))
 
 pub rows_sound : (w : WrittenList) → Sound w.cells (rows_list w)
 rows_sound w =
@@ -29,5 +49,5 @@ rows_sound w =
       some_cells = w.some_cells;
       few_cells = w.few_cells;
       short = omega (arith, length-map w.rows.now row_instance, w.few_rows);
-      fitting = by_recursion (Fitting w.cells) (rows_list w) (All-map (Fitting w.cells) row_instance w.rows.now (λ k d l. fitting w.cells _ (w.fit k d l)));
+      fitting = all_fit w.cells w.rows.now w.fit;
     }

@@ -26,7 +26,7 @@ impl Source for WrittenList<'_> {
         self.rows.len() as u32
     }
 
-    #[tactic(auto, using(sources::proofs::Items::nth_map, sources::proofs::Items::item_nth))]
+    #[tactic(auto, using(crate::proofs::Rows::row_gets))]
     fn record_at(&self, position: u32) -> Option<Record> {
         let row = self.rows.get(position as usize)?;
         Record::try_from(*row).ok()
