@@ -2,7 +2,6 @@
 use Rattle.std.proofs.Common.{◌≡◌, arith}
 use Rattle.std.proofs.lemmas.List.{length-take}
 use Rattle.records.specs.Instance.{Instance, Recordable}
-use Rattle.records.specs.Meaning.{instance}
 use Rattle.records.specs.declared.record.Record.{Record}
 
 pub same_parts : (x y : Instance) → x.operator ≡ y.operator → x.written ≡ y.written → x.reads ≡ y.reads → x ≡ y

@@ -1,13 +1,8 @@
--- The instances that rows and records mean.
+-- The instance that a row means.
 use Rattle.std.specs.Prelude.{take}
 use Rattle.records.specs.Instance.{Instance}
 use Rattle.records.specs.declared.row.Row.{Row}
-use Rattle.records.specs.declared.record.Record.{Record}
 
 -- what a row means: of its five cells the first `count` are read
 abbrev pub row_instance : Row → Instance
 row_instance r = record { operator = r.operator; written = r.written; reads = take r.count r.reads }
-
--- what a record means
-abbrev pub instance : Record → Instance
-instance r = r

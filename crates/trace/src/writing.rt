@@ -1,7 +1,6 @@
 //! Writing a record as bytes.
 ghost use Rattle.std.specs.Prelude.{◌≡◌, ◌*◌, ◌≤◌, length};
 ghost use Rattle.records.specs.Instance.{Recordable};
-ghost use Rattle.records.specs.Meaning.{instance};
 ghost use Rattle.trace.specs.Layouts.{byte_of, fields, size_of};
 ghost use Rattle.trace.specs.Writing.{shortest_fields, shortest, cell_bytes, over, spelled, written_to, write_answer, Shortest, ReadsBack};
 
@@ -12,10 +11,10 @@ use records::Record;
 /// Writes the shortest spelling of a record at the front of `out`, and answers its length. Later bytes stay.
 /// Where there is no room for it, no byte is changed.
 pub fn write_record(record: &Record, out: &mut [u8]) -> Result<usize, WriteFault>
-    ensures answer { result ≡ write_answer (shortest (instance «record».now)) out.old }
-    ensures after { out.new ≡ written_to (shortest (instance «record».now)) out.old }
-    ensures shortest { Shortest (instance «record».now) }
-    ensures reads_back { ReadsBack (instance «record».now) }
+    ensures answer { result ≡ write_answer (shortest «record».now) out.old }
+    ensures after { out.new ≡ written_to (shortest «record».now) out.old }
+    ensures shortest { Shortest «record».now }
+    ensures reads_back { ReadsBack «record».now }
 {
     let layout = Layout::shortest(record);
     let size = layout.size();

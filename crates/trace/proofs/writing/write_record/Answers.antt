@@ -1,5 +1,4 @@
 use Rattle.std.proofs.Common.{ap, ◌∙◌, arith}
-use Rattle.records.specs.Meaning.{instance}
 use Rattle.trace.proofs.Short.{is_shortest, no_room, reads_back, room, size_written}
 use Rattle.trace.specs.Layouts.{Fields}
 use Rattle.trace.specs.Writing.{over, shortest, spelled}
@@ -7,7 +6,7 @@ use Rattle.trace.proofs.writing.write_record.Goals as goal
 
 pub returns-then-out-size : goal.returns-then-out-size
 returns-then-out-size c =
-    let i = instance c.args.«record».now in
+    let i = c.args.«record».now in
     let h = c.shortest-layout.ensures.recordable in
     let size = size_written i h _ c.size-size.result c.size-size.ensures c.shortest-layout.ensures.layout in
     let r = no_room (shortest i) c.args.out.now c.size-size.result size (omega arith) in
@@ -15,7 +14,7 @@ returns-then-out-size c =
 
 pub returns : goal.returns
 returns c =
-    let i = instance c.args.«record».now in
+    let i = c.args.«record».now in
     let h = c.shortest-layout.ensures.recordable in
     let size = size_written i h _ c.size-size.result c.size-size.ensures c.shortest-layout.ensures.layout in
     let r = room (shortest i) c.args.out.now c.size-size.result size (omega arith) in
