@@ -1,16 +1,11 @@
 -- Which fields of a record stand in its bytes.
 use Rattle.std.specs.Prelude.{ℕ, ◌+◌, ◌-◌, ◌*◌, ◌^◌, Bool, if◌then◌else◌, List, [], ◌∷◌}
-use Rattle.trace.specs.declared.layout.Layout.{Layout}
 
 -- the fields that follow a map byte: an operator byte, the written cell, and so many reads
 pub record Fields : Type 0 where
   pub operator : Bool
   pub written : Bool
   pub reads : ℕ
-
--- the fields of a layout in memory
-abbrev pub fields : Layout → Fields
-fields y = record { operator = y.operator; written = y.written; reads = y.reads }
 
 -- 1 for a bit that stands
 abbrev pub bit : Bool → ℕ

@@ -1,5 +1,5 @@
 //! The layout of a record in bytes: which fields follow its map byte.
-ghost use Rattle.std.specs.Prelude.{◌+◌, ◌<◌, ◌≤◌, if◌then◌else◌};
+use std::marker::Model;
 
 /// An operator byte, the written cell, and none to five reads; at least one cell.
 #[derive(Clone, Copy, Debug)]
@@ -7,6 +7,17 @@ pub struct Layout {
     pub operator: bool,
     pub written: bool,
     pub reads: usize,
-    ghost few: { reads ≤ 5 },
-    ghost some: { 0 < (if written then 1 else 0) + reads },
+}
+
+impl Model for Layout {
+    ghost use Rattle.std.specs.Prelude.{◌+◌, ◌<◌, ◌≤◌};
+    ghost use Rattle.trace.specs.Layouts.{Fields, bit};
+
+    ghost Value = { Fields };
+
+    ghost view = { λ y. record { operator = y.operator; written = y.written; reads = y.reads } };
+
+    ghost invariant = { λ y. (y.reads ≤ 5) × (0 < bit y.written + y.reads) };
+
+    ghost inverse = { λ y. record { operator = y.operator; written = y.written; reads = y.reads } };
 }

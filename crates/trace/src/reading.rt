@@ -1,7 +1,7 @@
 //! Reading the record at the front of some bytes.
 ghost use Rattle.std.specs.Prelude.{◌≡◌, ◌+◌, ◌*◌, ◌<◌, ◌≤◌, length, take};
 ghost use Rattle.records.specs.Making.{result_map};
-ghost use Rattle.trace.specs.Layouts.{bit, cells_of, fields, size_of};
+ghost use Rattle.trace.specs.Layouts.{bit, cells_of, size_of};
 ghost use Rattle.trace.specs.Reading.{cell_in, cells_in, layout_at, read_at, record_at};
 
 use crate::fault::ReadFault;
@@ -21,7 +21,7 @@ pub(crate) struct Front {
 impl Layout {
     /// The layout that a map byte tells.
     pub(crate) fn from_byte(byte: u8, place: usize) -> Result<Layout, ReadFault>
-        ensures { result_map fields result ≡ layout_at place byte }
+        ensures { result ≡ layout_at place byte }
     {
         // Bit 7.
         if byte >= 128 {
@@ -52,7 +52,8 @@ impl Layout {
 
     /// How many cells stand in a record of this layout.
     fn cells(&self) -> usize
-        ensures { result ≡ cells_of (fields self.now) }
+        ensures count { result ≡ cells_of self.now }
+        ensures few { result ≤ 6 }
     {
         usize::from(self.written) + self.reads
     }
@@ -66,14 +67,14 @@ impl Layout {
 
     /// How many bytes a record of this layout has.
     pub(crate) fn size(&self) -> usize
-        ensures { result ≡ size_of (fields self.now) }
+        ensures { result ≡ size_of self.now }
     {
         self.first_cell() + 2 * self.cells()
     }
 
     /// The record of this layout at the front of `bytes`, which lie at `place` in the trace.
     pub(crate) fn record(&self, bytes: &[u8], place: usize) -> Result<Record, ReadFault>
-        ensures { result ≡ record_at place bytes.now (fields self.now) }
+        ensures { result ≡ record_at place bytes.now self.now }
     {
         if bytes.len() < self.size() {
             return Err(ReadFault::PastEnd { place });

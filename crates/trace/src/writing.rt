@@ -1,7 +1,7 @@
 //! Writing a record as bytes.
 ghost use Rattle.std.specs.Prelude.{◌≡◌, ◌*◌, ◌≤◌, length};
 ghost use Rattle.records.specs.Instance.{Recordable};
-ghost use Rattle.trace.specs.Layouts.{byte_of, fields, size_of};
+ghost use Rattle.trace.specs.Layouts.{byte_of, size_of};
 ghost use Rattle.trace.specs.Writing.{shortest_fields, shortest, cell_bytes, over, spelled, written_to, write_answer, Shortest, ReadsBack};
 
 use crate::fault::WriteFault;
@@ -28,7 +28,7 @@ pub fn write_record(record: &Record, out: &mut [u8]) -> Result<usize, WriteFault
 impl Layout {
     /// The layout of a record's shortest spelling.
     pub(crate) fn shortest(record: &Record) -> Layout
-        ensures layout { fields result ≡ shortest_fields «record».now }
+        ensures layout { result ≡ shortest_fields «record».now }
         ensures recordable { Recordable «record».now }
     {
         let operator = record.operator() != 0;
@@ -42,7 +42,7 @@ impl Layout {
 
     /// The map byte.
     pub(crate) fn byte(&self) -> u8
-        ensures { result ≡ byte_of (fields self.now) }
+        ensures { result ≡ byte_of self.now }
     {
         // A bit for each read, from the lowest up.
         let reads = match self.reads {
@@ -59,8 +59,8 @@ impl Layout {
     /// Writes a record of so many reads, in this layout, at the front of `out`.
     fn write(&self, record: &Record, out: &mut [u8])
         requires reads { self.now.reads ≡ length «record».now.reads }
-        requires room { size_of (fields self.now) ≤ length out.old }
-        ensures { out.new ≡ over (spelled (fields self.now) «record».now) out.old }
+        requires room { size_of self.now ≤ length out.old }
+        ensures { out.new ≡ over (spelled self.now «record».now) out.old }
     {
         out[0] = self.byte();
         if self.operator {
