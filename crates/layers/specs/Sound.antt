@@ -32,18 +32,23 @@ repeated_sound n {C} {l} s =
       fitting = all_copies (Fitting C) (turns n (length l)) l s.fitting;
     }
 
--- what is sound among few cells is sound among more
+-- what fits among few cells fits among more
+fits_more : (C D : ℕ) → C ≤ D → (i : Instance) → Fitting C i → Fitting D i
+fits_more C D h i f =
+    record {
+      recordable = f.recordable;
+      written_below = omega (arith, f.written_below);
+      reads_below = λ k d b. omega (arith, f.reads_below k d b);
+    }
+
+-- and what is sound
 more_cells : (C D : ℕ) (l : List Instance) → C ≤ D → D ≤ 4096 → Sound C l → Sound D l
 more_cells C D l h few s =
     record {
       some_cells = omega (arith, s.some_cells);
       few_cells = few;
       short = s.short;
-      fitting = λ k d b. let f = s.fitting k d b in record {
-        recordable = f.recordable;
-        written_below = omega (arith, f.written_below);
-        reads_below = λ j e a. omega (arith, f.reads_below j e a);
-      };
+      fitting = λ k d b. fits_more C D h _ (s.fitting k d b);
     }
 
 pub joined_sound : {C D : ℕ} {l m : List Instance} → Sound C l → Sound D m → Sound (max C D) (joined l m)
