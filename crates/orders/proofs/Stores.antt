@@ -31,8 +31,8 @@ nth_set_other (x ∷ s) (suc c) (suc d) v ne = nth_set_other s c d v (λ e. ne (
 -- lists that agree at every place are equal
 same_nth : {V : Type 0} (s t : List V) → ((c : ℕ) → slice_get s c ≡ slice_get t c) → s ≡ t
 same_nth [] [] h = refl
-same_nth [] (y ∷ t) h = let e = h 0 in let z : ◌≡◌ {A = ℕ} 0 1 = cc in absurd (omega arith)
-same_nth (x ∷ s) [] h = let e = h 0 in let z : ◌≡◌ {A = ℕ} 0 1 = cc in absurd (omega arith)
+same_nth [] (y ∷ t) h = let e = h 0 in absurd (cc)
+same_nth (x ∷ s) [] h = let e = h 0 in absurd (cc)
 same_nth (x ∷ s) (y ∷ t) h =
     let e = h 0 in
     let front : x ≡ y = cc in
@@ -58,7 +58,7 @@ done_same {V} f i s t reads own =
 
 leaves_next : {V : Type 0} (f : Arithmetic V) (l : List Instance) (s : List V) (n : ℕ) (i : Instance) → slice_get l n ≡ Some i → leaves f (take (suc n) l) s ≡ done f i (leaves f (take n l) s)
 unfolding leaves
-leaves_next f [] s n i e = let z : ◌≡◌ {A = ℕ} 0 1 = cc in absurd (omega arith)
+leaves_next f [] s n i e = absurd (cc)
 leaves_next f (x ∷ l) s zero i e = let same : x ≡ i = cc in ap (λ (y : Instance). done f y s) same
 leaves_next f (x ∷ l) s (suc n) i e = leaves_next f l (done f x s) n i e
 

@@ -18,8 +18,8 @@ decides_behind x y xs r ne (yes_if, if_yes) = (
 
 -- a list around two neighbours, and with these exchanged
 pub split_two : {X : Type 0} (xs : List X) (k : ℕ) (x y : X) → slice_get xs k ≡ Some x → slice_get xs (suc k) ≡ Some y → (a : List X) × (b : List X) × (xs ≡ a ++ x ∷ y ∷ b) × (set (set xs k y) (suc k) x ≡ a ++ y ∷ x ∷ b)
-split_two [] k x y e f = let z : ◌≡◌ {A = ℕ} 0 1 = cc in absurd (omega arith)
-split_two (z ∷ []) zero x y e f = let n : ◌≡◌ {A = ℕ} 0 1 = cc in absurd (omega arith)
+split_two [] k x y e f = absurd (cc)
+split_two (z ∷ []) zero x y e f = absurd (cc)
 split_two (z ∷ (w ∷ xs)) zero x y e f = ([], xs, (cc), refl)
 split_two (z ∷ xs) (suc k) x y e f =
     let (a, b, was, is) = split_two xs k x y e f in

@@ -117,7 +117,7 @@ pub begins_placed : (l r : List Instance) → Begins l r → (place : ℕ → �
 begins_placed l r (rest, (place, h)) = (place, placed_front l r rest place (match_placed l (r ++ rest) place h))
 
 take_next : {X : Type 0} (r : List X) (n : ℕ) (i : X) → slice_get r n ≡ Some i → take (suc n) r ≡ take n r ++ i ∷ []
-take_next [] n i e = let z : ◌≡◌ {A = ℕ} 0 1 = cc in absurd (omega arith)
+take_next [] n i e = absurd (cc)
 take_next (x ∷ r) zero i e = let same : x ≡ i = cc in ap (λ y. y ∷ []) same
 take_next (x ∷ r) (suc n) i e = ap (λ y. x ∷ y) (take_next r n i e)
 
