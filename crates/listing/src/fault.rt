@@ -18,7 +18,7 @@ pub enum ListFault {
 }
 
 impl ListFault {
-    /// The number of the refusal.
+    /// The number of the refusal, as docs/REFUSALS.md has it.
     pub fn number(self) -> u8
         ensures { result ≡ number_of self }
     {

@@ -39,6 +39,7 @@ impl fmt::Display for Listing<'_> {
             return writeln!(f, "{}", ListFault::TooLong);
         }
         let mut reader = TraceReader::new(self.bytes);
+        // Counted by hand: a reader is no iterator, since a refusal leaves it where it is.
         let mut count = 0u32;
         loop {
             match reader.next_record() {

@@ -12,7 +12,7 @@ pub enum RecordFault {
 }
 
 impl RecordFault {
-    /// The number of the refusal.
+    /// The number of the refusal, as docs/REFUSALS.md has it.
     pub fn number(self) -> u8
         ensures { result ≡ number_of self }
     {

@@ -8,6 +8,7 @@ mod parts;
 mod text;
 
 /// It means an instance, which its contracts speak of. The operator is at most 15, and there are at most five reads.
+// An array with a count beside it, and no Vec: a record is Copy, without a heap.
 #[derive(Clone, Copy, Debug)]
 pub struct Record {
     operator: u8,

@@ -3,7 +3,8 @@
 /// The most reads that a record has.
 pub const MOST_READS: usize = 5;
 
-/// A record as it lies in memory. Anything may stand in it: `Record::from_row` says whether it is a record.
+/// A record as it lies in memory. Anything may stand in it: `Record::try_from` says whether it is a record.
+// An array with a count beside it, and no Vec: rows lie in the caller's memory, without a heap.
 #[derive(Clone, Copy, Debug)]
 pub struct Row {
     /// What is done, 0 to 15 in a record.

@@ -14,7 +14,7 @@ pub enum RowsFault {
 }
 
 impl RowsFault {
-    /// The number of the refusal.
+    /// The number of the refusal, as docs/REFUSALS.md has it.
     pub fn number(self) -> u8
         ensures { result ≡ number_of self }
     {
@@ -26,6 +26,7 @@ impl RowsFault {
     }
 
     /// The row that is refused, counted from 1; 0 where it is none of them.
+    // A number and no Option: docs/REFUSALS.md gives each 22 a row, and 0 to the number of cells.
     pub fn row(self) -> usize
         ensures { result ≡ row_of self }
     {

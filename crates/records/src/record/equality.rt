@@ -6,6 +6,7 @@ ghost use Rattle.records.specs.Equality.{SameExact, same_instance};
 
 use crate::record::Record;
 
+// By hand, since its three clauses have no place on a derive.
 impl PartialEq for Record {
     ghost eq = { same_instance };
 

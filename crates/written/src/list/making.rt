@@ -56,6 +56,7 @@ impl<'a> WrittenList<'a> {
     }
 }
 
+// The number of cells goes beside the rows here, since what holds both is the list that these functions make.
 /// The position of the first row that does not fit.
 fn first_misfit(cells: u16, rows: &[Row]) -> Option<usize>
     ensures { result ≡ first_misfit cells rows.now }
