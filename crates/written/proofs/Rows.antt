@@ -1,10 +1,11 @@
 -- Steps over the rows of a written list.
-use Rattle.std.proofs.Common.{count_by, filter, Bor, ◌≡◌, ℕ, zero, suc, ◌+◌, ◌<◌, ◌≤◌, min, Bool, true, false, cond, not, eqb, ltb, List, [], ◌∷◌, map, length, get_or, take, Some, None, Ok, Err, Option, Result, unwrap_or, sym, refl, ap, ◌∙◌, inl, inr, add-zero, add-one, arith}
+use Rattle.std.proofs.Common.{count_by, filter, Bor, is_some, true≢false, ◌≡◌, ℕ, zero, suc, ◌+◌, ◌<◌, ◌≤◌, min, Bool, true, false, cond, not, eqb, ltb, List, [], ◌∷◌, map, length, get_or, take, Some, None, Ok, Err, Option, Result, unwrap_or, sym, refl, ap, ◌∙◌, inl, inr, add-zero, add-one, arith}
 use Rattle.std.proofs.lemmas.List.{length-map}
 use Rattle.std.proofs.lemmas.List.{length-take-le, take_all, take-map}
 use Rattle.std.proofs.lemmas.Option.{none-some, slice_get-get_or, slice_get-map}
-use Rattle.std.proofs.lemmas.Bool.{cases_lt, eq-eqb, ne_eqb, not-false}
+use Rattle.std.proofs.lemmas.Bool.{cases_lt, eq-eqb, le-ltb, lt-ltb, ltb-false, ltb-true, ne_eqb, not-false}
 use Rattle.std.specs.Option.{option_map}
+use Rattle.std.proofs.lemmas.List.Elements.{All-cons, All-nil}
 use Rattle.std.proofs.lemmas.List.Quantifiers.{position-Some}
 use Rattle.std.proofs.lemmas.List.Sums.{count_by_more_no, count_by_more_yes, fails_before_first, length-filter, sum_by-cons}
 use Rattle.std.proofs.lemmas.List.Filters.{length-filter_more}
@@ -129,12 +130,33 @@ writer_found c k rows (Some x) e =
     let writes = ap (λ (o : Option Instance). unwrap_or (option_map (λ (i : Instance). eqb i.written c) o) false) (slice_get-map row_instance rows j ∙ ap (option_map row_instance) h.0) ∙ h.1 in
     ap Some (omega arith) ∙ sym (writer_from (map row_instance rows) c k j writes (earlier_counted c j rows ∙ h.2))
 
+-- the first misfit, by the first row
+misfit_first : (C : ℕ) (r : Row) (rs : List Row) → first_misfit C (r ∷ rs) ≡ cond (row_fits C r) (option_map suc (first_misfit C rs)) (Some 0)
+misfit_first C r rs = step (row_fits C r) (position_or_len (λ q. not (row_fits C q)) rs) (length rs)
+  where
+    within : (n m : ℕ) (b : Bool) → ltb n m ≡ b → cond (ltb (1 + n) (suc m)) (Some (1 + n)) None ≡ option_map suc (cond b (Some n) None)
+    within n m true e = rw (lt-ltb (1 + n) (suc m) (omega (arith, ltb-true n m e))) (ap Some (omega arith))
+    within n m false e = rw (le-ltb (1 + n) (suc m) (omega (arith, ltb-false n m e))) refl
+
+    step : (t : Bool) (n m : ℕ) → cond (ltb (cond (not (not t)) (1 + n) 0) (suc m)) (Some (cond (not (not t)) (1 + n) 0)) None ≡ cond t (option_map suc (cond (ltb n m) (Some n) None)) (Some 0)
+    step true n m = within n m (ltb n m) refl
+    step false n m = rw (lt-ltb 0 (suc m) (omega arith)) refl
+
+-- where the first row fits and no other is found that does not, none is found
+fit_first : (t : Bool) (o : Option ℕ) → is_some (cond t (option_map suc o) (Some 0)) ≡ false → (t ≡ true) × (is_some o ≡ false)
+fit_first true None e = (refl, refl)
+fit_first true (Some x) e = absurd (true≢false e)
+fit_first false o e = absurd (true≢false e)
+
 -- where no row is found that does not fit, all do
 pub all_rows_fit : (C : ℕ) (rows : List Row) → first_misfit C rows ≡ None → AllPass (row_fits C) rows
-all_rows_fit C rows e k d l = not-false (row_fits C (get_or rows k d)) (fails_before_first (λ r. not (row_fits C r)) rows k d (past (position_or_len (λ r. not (row_fits C r)) rows) e))
+all_rows_fit C rows e = none rows (ap is_some e)
   where
-    past : (i : ℕ) → cond (ltb i (length rows)) (Some i) None ≡ None → k < i
-    past i e = grind arith
+    none : (rs : List Row) → is_some (first_misfit C rs) ≡ false → AllPass (row_fits C) rs
+    none [] e = All-nil (λ r. row_fits C r ≡ true)
+    none (r ∷ rs) e =
+        let (fits, rest) = fit_first (row_fits C r) (first_misfit C rs) (ap is_some (sym (misfit_first C r rs)) ∙ e) in
+        All-cons (λ r. row_fits C r ≡ true) r rs fits (none rs rest)
 
 -- a misfit is one of the rows
 pub misfit_below : (C : ℕ) (rows : List Row) (p : ℕ) → first_misfit C rows ≡ Some p → p < length rows

@@ -1,5 +1,5 @@
 -- A written list is sound.
-use Rattle.std.specs.Prelude.{◌≡◌, ℕ, ◌<◌, ◌&&◌, All, List, false, map, nat_lt, true}
+use Rattle.std.specs.Prelude.{◌≡◌, ℕ, ◌<◌, ◌&&◌, All, Bool, Err, List, Ok, false, if◌then◌else◌, refl, map, nat_lt, true}
 use Rattle.std.proofs.Common.{arith, length-take}
 use Rattle.std.proofs.lemmas.List.{length-map}
 use Rattle.std.proofs.lemmas.List.Elements.{All-map}
@@ -7,9 +7,11 @@ use Rattle.std.proofs.lemmas.List.Sums.{AllPass-from_list_all}
 use Rattle.std.proofs.lemmas.Bool.{and_parts, ltb-false, ltb-true}
 use Rattle.std.specs.List.{AllPass}
 use Rattle.records.specs.Meaning.{row_instance}
+use Rattle.records.specs.Instance.{Instance}
+use Rattle.records.specs.declared.fault.RecordFault.TheVariants.{Operator, Reads}
 use Rattle.records.specs.declared.row.Row.{Row}
 use Rattle.sources.specs.Sound.{Fitting, Sound}
-use Rattle.written.specs.Rows.{all_below, row_fits}
+use Rattle.written.specs.Rows.{all_below, judged_fits, row_fits}
 use Rattle.written.specs.Meaning.{rows_list}
 use Rattle.written.specs.declared.list.WrittenList.{WrittenList}
 
@@ -23,8 +25,15 @@ pub record Passed (C : ℕ) (r : Row) : Type 0 where
   pub few : nat_lt 5 r.count ≡ false
   pub cells : (nat_lt r.written C && all_below C (row_instance r).reads) ≡ true
 
+passed_by : (C : ℕ) (i : Instance) (a b : Bool) → judged_fits C (if a then Err Operator else (if b then Err Reads else Ok i)) ≡ true → (a ≡ false) × (b ≡ false) × ((nat_lt i.written C && all_below C i.reads) ≡ true)
+passed_by C i true b e = absurd (cc)
+passed_by C i false true e = absurd (cc)
+passed_by C i false false e = (refl, refl, e)
+
 pub passed : (C : ℕ) (r : Row) → row_fits C r ≡ true → Passed C r
-passed C r e = record { small = grind arith; few = grind arith; cells = grind arith }
+passed C r e =
+    let (a, b, c) = passed_by C (row_instance r) (nat_lt 15 r.operator) (nat_lt 5 r.count) e in
+    record { small = a; few = b; cells = c }
 
 fitting : (C : ℕ) (r : Row) → row_fits C r ≡ true → Fitting C (row_instance r)
 fitting C r e =
