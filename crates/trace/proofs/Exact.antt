@@ -6,11 +6,10 @@ use Rattle.std.proofs.lemmas.List.{take_at}
 use Rattle.std.specs.List.{slice_get}
 use Rattle.records.proofs.Parts.{same_parts}
 use Rattle.records.specs.Instance.{Instance}
-use Rattle.records.specs.Making.{result_map}
 use Rattle.trace.proofs.Bytes.{byte_tells}
 use Rattle.trace.proofs.Held.{length_held, cells_held}
 use Rattle.trace.specs.Layouts.{Fields, bit, byte_of, cells_of, size_of, if_set}
-use Rattle.trace.specs.Reading.{and_then, cells_in, found, layout_at, record_at, read_at}
+use Rattle.trace.specs.Reading.{cells_in, found, layout_at, record_at, read_at}
 use Rattle.trace.specs.Spelling.{Spells, Unambiguous}
 use Rattle.trace.specs.declared.fault.ReadFault.{ReadFault}
 use Rattle.trace.specs.declared.reading.Front.{Front}
@@ -37,8 +36,8 @@ past_operator o c b xs = grind arith
 length_fields : (o : Bool) (c b : ℕ) (xs : List ℕ) → length (b ∷ (if_set o c ++ xs)) ≡ 1 + (bit o + length xs)
 length_fields o c b xs = grind arith
 
-record_is : (p : ℕ) (bs : List ℕ) (y : Fields) (i : Instance) → size_of y ≤ length bs → found y bs ≡ i → i.operator ≤ 15 → record_at p bs y ≡ Ok i
-record_is p bs y i fits is small = grind (arith, nat_tests)
+record_is : (bs : List ℕ) (y : Fields) (i : Instance) → size_of y ≤ length bs → found y bs ≡ i → i.operator ≤ 15 → record_at bs y ≡ Ok i
+record_is bs y i fits is small = grind (arith, nat_tests)
 
 module _ (s t : List ℕ) (i : Instance) (h : Spells s i) where
   count : cells_of h.fields ≡ length (if_set h.fields.written i.written ++ i.reads)
@@ -78,27 +77,19 @@ module _ (s t : List ℕ) (i : Instance) (h : Spells s i) where
       (ap (λ (l : List ℕ). get_or l 0 0) cells_are ∙ first_is h.fields.written i.written i.reads h.written)
       (ap (λ (l : List ℕ). drop (bit h.fields.written) l) cells_are ∙ rest_is h.fields.written i.written i.reads)
 
-  laid_record : (p : ℕ) → record_at p laid h.fields ≡ Ok i
-  laid_record p =
-      record_is p laid h.fields i (omega (arith, size_is, ap length laid_is, length-append s t)) laid_found h.sound.small
+  laid_record : record_at laid h.fields ≡ Ok i
+  laid_record =
+      record_is laid h.fields i (omega (arith, size_is, ap length laid_is, length-append s t)) laid_found h.sound.small
 
-  laid_layout : (p : ℕ) → layout_at p (byte_of h.fields) ≡ Ok h.fields
-  laid_layout p =
-      byte_tells p h.fields (omega (arith, h.reads, h.sound.few))
+  laid_layout : layout_at (byte_of h.fields) ≡ Ok h.fields
+  laid_layout =
+      byte_tells h.fields (omega (arith, h.reads, h.sound.few))
       (omega (arith, count, some_is h.fields.written i.written i.reads h.written))
-
-  laid_read : (p : ℕ) → read_at p laid ≡ Ok (Some (record { found = i; size = size_of h.fields }))
-  unfolding laid
-  laid_read p =
-      let piece : Fields → Instance → Option Front = λ y j. Some (record { found = j; size = size_of y }) in
-      ap (λ (r : Result Fields ReadFault). and_then r (λ y. result_map (piece y) (record_at p laid y))) (laid_layout p)
-      ∙ ap (result_map (piece h.fields)) (laid_record p)
 
   -- a record is read wherever its spelling begins the bytes
   pub spelled_read : (p : ℕ) → read_at p (s ++ t) ≡ Ok (Some (record { found = i; size = length s }))
-  spelled_read p =
-      ap (read_at p) laid_is
-      ∙ (laid_read p ∙ ap (λ (n : ℕ). Ok (Some (record { found = i; size = n }))) (sym size_is))
+  unfolding laid
+  spelled_read p = rw (laid_is, laid_layout, laid_record, size_is) refl
 
 same_front : (i j : Instance) (m n : ℕ) → ◌≡◌ {A = Result (Option Front) ReadFault} (Ok (Some (record { found = i; size = m }))) (Ok (Some (record { found = j; size = n }))) → (m ≡ n) × (i ≡ j)
 same_front i j m n e = grind arith

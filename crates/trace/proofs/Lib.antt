@@ -2,7 +2,6 @@ mod Bytes
 mod Cells
 mod Exact
 mod Held
-mod Places
 mod Puts
 mod Short
 mod Sound

@@ -5,6 +5,7 @@ use Rattle.std.proofs.lemmas.List.{length-drop}
 use Rattle.std.proofs.lemmas.Bool.Decides.{nat_tests}
 use Rattle.std.proofs.lemmas.Grind.{common_steps}
 use Rattle.std.specs.List.{slice_get}
+use Rattle.std.specs.Result.{result_map_both}
 use Rattle.records.specs.Instance.{Instance}
 use Rattle.records.specs.Making.{result_map}
 use Rattle.trace.proofs.Bytes.{Told, byte_from}
@@ -14,15 +15,15 @@ use Rattle.trace.specs.Reading.{and_then, cells_in, found, layout_at, record_at,
 use Rattle.trace.specs.Spelling.{Spells}
 use Rattle.trace.specs.declared.reading.Front.{Front}
 
-then_ok : {A B E : Type 0} (r : Result A E) (f : A → Result B E) (x : B) → and_then r f ≡ Ok x → (a : A) × (r ≡ Ok a) × (f a ≡ Ok x)
-then_ok r f x e = grind arith
+then_ok : {A B E F : Type 0} (g : E → F) (r : Result A E) (f : A → Result B E) (x : B) → result_map_both (λ y. y) g (and_then r f) ≡ Ok x → (a : A) × (r ≡ Ok a) × (f a ≡ Ok x)
+then_ok g r f x e = grind arith
 
 map_ok : {A B E : Type 0} (f : A → B) (r : Result A E) (x : B) → result_map f r ≡ Ok x → (a : A) × (r ≡ Ok a) × (f a ≡ x)
 map_ok f r x e = grind arith
 
 -- what a record that was found is
-within : (p : ℕ) (bs : List ℕ) (y : Fields) (i : Instance) → record_at p bs y ≡ Ok i → (size_of y ≤ length bs) × (found y bs ≡ i) × ((found y bs).operator ≤ 15)
-within p bs y i e = grind (arith, nat_tests)
+within : (bs : List ℕ) (y : Fields) (i : Instance) → record_at bs y ≡ Ok i → (size_of y ≤ length bs) × (found y bs ≡ i) × ((found y bs).operator ≤ 15)
+within bs y i e = grind (arith, nat_tests)
 
 length_cells : (n : ℕ) (bs : List ℕ) → length (cells_in n bs) ≡ n
 length_cells zero bs = refl
@@ -74,18 +75,18 @@ module _ (b : ℕ) (bs : List ℕ) (y : Fields) (told : Told b y) (fits : size_o
 pub read_spelled : (p : ℕ) (bs : List ℕ) (x : Front) → read_at p bs ≡ Ok (Some x) → Spells (take x.size bs) x.found × (x.size ≤ length bs)
 read_spelled p [] x e = cc
 read_spelled p (b ∷ bs) x e =
-    let (y, tells, more) = then_ok (layout_at p b) _ (Some x) e in
-    let (i, at, made) = map_ok _ (record_at p (b ∷ bs) y) (Some x) more in
-    let (fits, found_is, small) = within p (b ∷ bs) y i at in
+    let (y, tells, more) = then_ok _ (layout_at b) _ (Some x) e in
+    let (i, at, made) = map_ok _ (record_at (b ∷ bs) y) (Some x) more in
+    let (fits, found_is, small) = within (b ∷ bs) y i at in
     let from : Front = record { found = found y (b ∷ bs); size = size_of y } in
     let is : from ≡ x = ap (λ (j : Instance). record { found = j; size = size_of y }) found_is ∙ same_Some _ x made in
     subst (λ (z : Front). Spells (take z.size (b ∷ bs)) z.found × (z.size ≤ length (b ∷ bs))) {x = from} is
-    (cut_spells b bs y (byte_from p b y tells) fits small, fits)
+    (cut_spells b bs y (byte_from b y tells) fits small, fits)
 
 -- none is read only where nothing is left
 pub none_left : (p : ℕ) (bs : List ℕ) → read_at p bs ≡ Ok None → bs ≡ []
 none_left p [] e = refl
 none_left p (b ∷ bs) e =
-    let (y, tells, more) = then_ok (layout_at p b) _ None e in
-    let (i, at, made) = map_ok _ (record_at p (b ∷ bs) y) None more in
+    let (y, tells, more) = then_ok _ (layout_at b) _ None e in
+    let (i, at, made) = map_ok _ (record_at (b ∷ bs) y) None more in
     cc

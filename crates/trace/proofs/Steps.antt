@@ -1,15 +1,17 @@
 -- A reader's step finds exactly what is spelled.
-use Rattle.std.proofs.Common.{◌≡◌, ℕ, ◌+◌, ◌-◌, List, ◌++◌, length, take, drop, Some, None, Ok, Err, Option, Result, sym, refl, ap, ◌∙◌, subst, arith}
+use Rattle.std.proofs.Common.{◌≡◌, ℕ, ◌+◌, ◌-◌, List, [], ◌∷◌, ◌++◌, length, take, drop, Some, None, Ok, Err, Option, Result, sym, refl, ap, ◌∙◌, subst, arith}
 use Rattle.std.proofs.lemmas.List.{take-append-drop, take_rest, drop-drop}
 use Rattle.std.specs.Option.{option_map}
+use Rattle.std.specs.Result.{result_map_both}
 use Rattle.records.specs.Instance.{Instance}
 use Rattle.records.specs.Making.{result_map}
 use Rattle.trace.proofs.Exact.{spelled_read}
-use Rattle.trace.proofs.Places.{fault_place}
 use Rattle.trace.proofs.Sound.{none_left, read_spelled}
+use Rattle.trace.specs.Faults.{place_of}
 use Rattle.trace.specs.Reader.{Cursor, Finds, left, stepped}
 use Rattle.trace.specs.Reading.{read_at}
 use Rattle.trace.specs.Spelling.{Spells}
+use Rattle.trace.specs.declared.fault.ReadCause.{ReadCause}
 use Rattle.trace.specs.declared.fault.ReadFault.{ReadFault}
 use Rattle.trace.specs.declared.reading.Front.{Front}
 
@@ -23,6 +25,14 @@ passed c n = grind arith
 
 pub beyond : (c : Cursor) (n : ℕ) → drop (c.place + n) c.bytes ≡ drop n (left c)
 beyond c n = sym (drop-drop n c.place c.bytes)
+
+-- a refusal is at the place that the reader came to
+placed_at : {A : Type 0} (p : ℕ) (r : Result A ReadCause) (f : ReadFault) → result_map_both (λ x. x) (λ c. record { cause = c; place = p }) r ≡ Err f → place_of f ≡ p
+placed_at p r f e = grind arith
+
+fault_place : (p : ℕ) (bs : List ℕ) (f : ReadFault) → read_at p bs ≡ Err f → place_of f ≡ p
+fault_place p [] f e = cc
+fault_place p (b ∷ bs) f e = placed_at p _ f e
 
 step_by : (c : Cursor) (r : Result (Option Front) ReadFault) → read_at c.place (left c) ≡ r → Finds c (answer r) (stepped c r)
 step_by c (Ok None) e = (none_left c.place (left c) e, refl)

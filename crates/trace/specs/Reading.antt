@@ -1,10 +1,12 @@
 -- What reading a record answers.
 use Rattle.std.specs.Prelude.{ℕ, zero, suc, ◌+◌, ◌*◌, ◌/◌, ◌%◌, if◌then◌else◌, not, ◌&&◌, List, [], ◌∷◌, length, drop, Some, None, Ok, Err, Option, Result, ◌==◌, nat_lt, slice_index}
+use Rattle.std.specs.Result.{result_map_both}
 use Rattle.records.specs.Instance.{Instance}
 use Rattle.records.specs.Making.{result_map}
 use Rattle.trace.specs.Layouts.{Fields, bit, cells_of, size_of}
+use Rattle.trace.specs.declared.fault.ReadCause.{ReadCause}
+use Rattle.trace.specs.declared.fault.ReadCause.TheVariants.{HighBit, Gap, NoCell, PastEnd, Operator}
 use Rattle.trace.specs.declared.fault.ReadFault.{ReadFault}
-use Rattle.trace.specs.declared.fault.ReadFault.TheVariants.{HighBit, Gap, NoCell, PastEnd, Operator}
 use Rattle.trace.specs.declared.reading.Front.{Front}
 
 -- the rest of a computation, where its first part did not fail
@@ -24,17 +26,17 @@ reads_in b =
     else None)))))
 
 -- at least one cell stands
-abbrev pub with_cell : ℕ → Fields → Result Fields ReadFault
-with_cell p y = if not y.written && y.reads == 0 then Err (NoCell p) else Ok y
+abbrev pub with_cell : Fields → Result Fields ReadCause
+with_cell y = if not y.written && y.reads == 0 then Err NoCell else Ok y
 
 -- the bits have no gap
-abbrev pub without_gap : ℕ → ℕ → Option ℕ → Result Fields ReadFault
-without_gap p b None = Err (Gap p)
-without_gap p b (Some n) = with_cell p (record { operator = (b % 2 == 1); written = (b / 2 % 2 == 1); reads = n })
+abbrev pub without_gap : ℕ → Option ℕ → Result Fields ReadCause
+without_gap b None = Err Gap
+without_gap b (Some n) = with_cell (record { operator = (b % 2 == 1); written = (b / 2 % 2 == 1); reads = n })
 
--- the fields that the map byte b at place p tells
-abbrev pub layout_at : ℕ → ℕ → Result Fields ReadFault
-layout_at p b = if nat_lt 127 b then Err (HighBit p) else without_gap p b (reads_in (b / 4))
+-- the fields that the map byte b tells
+abbrev pub layout_at : ℕ → Result Fields ReadCause
+layout_at b = if nat_lt 127 b then Err HighBit else without_gap b (reads_in (b / 4))
 
 -- the cell in the first two of some bytes, the low byte first
 abbrev pub cell_in : List ℕ → ℕ
@@ -52,13 +54,15 @@ found y bs =
     record { operator = (if y.operator then slice_index bs 1 else 0); written = slice_index cells 0; reads = drop (bit y.written) cells }
 
 -- it ends before the bytes do, and then its operator is at most 15
-abbrev pub record_at : ℕ → List ℕ → Fields → Result Instance ReadFault
-record_at p bs y =
-    if nat_lt (length bs) (size_of y) then Err (PastEnd p)
-    else (if nat_lt 15 (found y bs).operator then Err (Operator p)
+abbrev pub record_at : List ℕ → Fields → Result Instance ReadCause
+record_at bs y =
+    if nat_lt (length bs) (size_of y) then Err PastEnd
+    else (if nat_lt 15 (found y bs).operator then Err Operator
     else Ok (found y bs))
 
 -- the record at the front of bytes that lie at place p of the trace, and its size, or none where no bytes are left
 abbrev pub read_at : ℕ → List ℕ → Result (Option Front) ReadFault
 read_at p [] = Ok None
-read_at p (b ∷ bs) = and_then (layout_at p b) (λ y. result_map (λ i. Some (record { found = i; size = size_of y })) (record_at p (b ∷ bs) y))
+read_at p (b ∷ bs) =
+    result_map_both (λ x. x) (λ c. record { cause = c; place = p })
+    (and_then (layout_at b) (λ y. result_map (λ i. Some (record { found = i; size = size_of y })) (record_at (b ∷ bs) y)))

@@ -5,19 +5,26 @@ ghost use Rattle.trace.specs.declared.fault.TraceFault.TheVariants.{Read, NoMemo
 
 use std::alloc::{AllocError, AllocFailed};
 
-/// Why bytes form no record; each case has the place of the map byte.
+/// Why bytes form no record.
 #[derive(Clone, Copy, Debug, PartialEq, Eq)]
-pub enum ReadFault {
+pub enum ReadCause {
     /// Bit 7 of the map byte stands.
-    HighBit { place: usize },
+    HighBit,
     /// The read bits have a gap.
-    Gap { place: usize },
+    Gap,
     /// There is neither a written cell nor a read.
-    NoCell { place: usize },
+    NoCell,
     /// The record runs past the end of the trace.
-    PastEnd { place: usize },
+    PastEnd,
     /// The operator is over 15.
-    Operator { place: usize },
+    Operator,
+}
+
+/// Bytes that form no record: why, and the place of the map byte.
+#[derive(Clone, Copy, Debug, PartialEq, Eq)]
+pub struct ReadFault {
+    pub cause: ReadCause,
+    pub place: usize,
 }
 
 impl ReadFault {
@@ -25,12 +32,12 @@ impl ReadFault {
     pub fn number(self) -> u8
         ensures { result ≡ number_of self }
     {
-        match self {
-            ReadFault::HighBit { .. } => 41,
-            ReadFault::Gap { .. } => 42,
-            ReadFault::NoCell { .. } => 43,
-            ReadFault::PastEnd { .. } => 44,
-            ReadFault::Operator { .. } => 45,
+        match self.cause {
+            ReadCause::HighBit => 41,
+            ReadCause::Gap => 42,
+            ReadCause::NoCell => 43,
+            ReadCause::PastEnd => 44,
+            ReadCause::Operator => 45,
         }
     }
 
@@ -38,13 +45,7 @@ impl ReadFault {
     pub fn place(self) -> usize
         ensures { result ≡ place_of self }
     {
-        match self {
-            ReadFault::HighBit { place }
-            | ReadFault::Gap { place }
-            | ReadFault::NoCell { place }
-            | ReadFault::PastEnd { place }
-            | ReadFault::Operator { place } => place,
-        }
+        self.place
     }
 }
 

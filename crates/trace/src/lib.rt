@@ -8,7 +8,7 @@ mod reading;
 pub mod whole;
 pub mod writing;
 
-pub use fault::{ReadFault, TraceFault, WriteFault};
+pub use fault::{ReadCause, ReadFault, TraceFault, WriteFault};
 pub use reader::TraceReader;
 pub use whole::read_trace;
 pub use writing::write_record;

@@ -1,10 +1,9 @@
 //! Reading the record at the front of some bytes.
 ghost use Rattle.std.specs.Prelude.{◌≡◌, ◌+◌, ◌*◌, ◌<◌, ◌≤◌, length, take};
-ghost use Rattle.records.specs.Making.{result_map};
 ghost use Rattle.trace.specs.Layouts.{bit, cells_of, size_of};
 ghost use Rattle.trace.specs.Reading.{cell_in, cells_in, layout_at, read_at, record_at};
 
-use crate::fault::ReadFault;
+use crate::fault::{ReadCause, ReadFault};
 use crate::layout::Layout;
 use records::{MOST_READS, Record};
 
@@ -20,12 +19,12 @@ pub(crate) struct Front {
 
 impl Layout {
     /// The layout that a map byte tells.
-    pub(crate) fn from_byte(byte: u8, place: usize) -> Result<Layout, ReadFault>
-        ensures { result ≡ layout_at place byte }
+    pub(crate) fn from_byte(byte: u8) -> Result<Layout, ReadCause>
+        ensures { result ≡ layout_at byte }
     {
         // Bit 7.
         if byte >= 128 {
-            return Err(ReadFault::HighBit { place });
+            return Err(ReadCause::HighBit);
         }
         // Bits 2 to 6, from the lowest up.
         let reads = match byte / 4 {
@@ -35,13 +34,13 @@ impl Layout {
             7 => 3,
             15 => 4,
             31 => 5,
-            _ => return Err(ReadFault::Gap { place }),
+            _ => return Err(ReadCause::Gap),
         };
         // Bit 1, and below it bit 0.
         let written = byte / 2 % 2 == 1;
         let operator = byte % 2 == 1;
         if !written && reads == 0 {
-            return Err(ReadFault::NoCell { place });
+            return Err(ReadCause::NoCell);
         }
         Ok(Layout {
             operator,
@@ -72,18 +71,18 @@ impl Layout {
         self.first_cell() + 2 * self.cells()
     }
 
-    /// The record of this layout at the front of `bytes`, which lie at `place` in the trace.
-    pub(crate) fn record(&self, bytes: &[u8], place: usize) -> Result<Record, ReadFault>
-        ensures { result ≡ record_at place bytes.now self.now }
+    /// The record of this layout at the front of `bytes`.
+    pub(crate) fn record(&self, bytes: &[u8]) -> Result<Record, ReadCause>
+        ensures { result ≡ record_at bytes.now self.now }
     {
         if bytes.len() < self.size() {
-            return Err(ReadFault::PastEnd { place });
+            return Err(ReadCause::PastEnd);
         }
         let operator = if self.operator { bytes[1] } else { 0 };
         let cells = read_cells(&bytes[self.first_cell()..], self.cells());
         let cells = &cells[..self.cells()];
         let reads = &cells[usize::from(self.written)..];
-        Record::new(operator, cells[0], reads).map_err(|_| ReadFault::Operator { place })
+        Record::new(operator, cells[0], reads).map_err(|_| ReadCause::Operator)
     }
 }
 
@@ -114,8 +113,9 @@ pub(crate) fn read_front(rest: &[u8], place: usize) -> Result<Option<Front>, Rea
     let Some(byte) = rest.first() else {
         return Ok(None);
     };
-    let layout = Layout::from_byte(*byte, place)?;
-    let found = layout.record(rest, place)?;
+    let placed = |cause| ReadFault { cause, place };
+    let layout = Layout::from_byte(*byte).map_err(placed)?;
+    let found = layout.record(rest).map_err(placed)?;
     let size = layout.size();
     Ok(Some(Front { found, size }))
 }
