@@ -1,5 +1,5 @@
 -- What is read is spelled.
-use Rattle.std.proofs.Common.{◌≡◌, ℕ, zero, suc, ◌+◌, ◌*◌, ◌<◌, ◌≤◌, Bool, false, if◌then◌else◌, List, [], ◌∷◌, ◌++◌, length, get_or, take, drop, Some, None, Ok, Result, sym, refl, ap, ◌∙◌, subst, arith}
+use Rattle.std.proofs.Common.{◌≡◌, ℕ, zero, suc, ◌+◌, ◌*◌, ◌<◌, ◌≤◌, Bool, false, if◌then◌else◌, List, [], ◌∷◌, ◌++◌, length, get_or, take, drop, Some, None, Ok, Result, sym, refl, ap, ◌∙◌, arith}
 use Rattle.std.proofs.lemmas.Option.{same_Some}
 use Rattle.std.proofs.lemmas.List.{length-drop}
 use Rattle.std.proofs.lemmas.Bool.Decides.{nat_tests}
@@ -78,10 +78,7 @@ read_spelled p (b ∷ bs) x e =
     let (y, tells, more) = then_ok _ (layout_at b) _ (Some x) e in
     let (i, at, made) = map_ok _ (record_at (b ∷ bs) y) (Some x) more in
     let (fits, found_is, small) = within (b ∷ bs) y i at in
-    let from : Front = record { found = found y (b ∷ bs); size = size_of y } in
-    let is : from ≡ x = ap (λ (j : Instance). record { found = j; size = size_of y }) found_is ∙ same_Some _ x made in
-    subst (λ (z : Front). Spells (take z.size (b ∷ bs)) z.found × (z.size ≤ length (b ∷ bs))) {x = from} is
-    (cut_spells b bs y (byte_from b y tells) fits small, fits)
+    rw (sym (same_Some _ x made), sym found_is) (cut_spells b bs y (byte_from b y tells) fits small, fits)
 
 -- none is read only where nothing is left
 pub none_left : (p : ℕ) (bs : List ℕ) → read_at p bs ≡ Ok None → bs ≡ []

@@ -1,5 +1,5 @@
 //! Reading the record at the front of some bytes.
-ghost use Rattle.std.specs.Prelude.{◌≡◌, ◌+◌, ◌*◌, ◌<◌, ◌≤◌, length, take};
+ghost use Rattle.std.specs.Prelude.{◌≡◌, ◌+◌, ◌*◌, ◌≤◌, length, take};
 ghost use Rattle.trace.specs.Layouts.{bit, cells_of, size_of};
 ghost use Rattle.trace.specs.Reading.{cell_in, cells_in, layout_at, read_at, record_at};
 
