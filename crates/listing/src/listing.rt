@@ -8,6 +8,7 @@ use trace::TraceReader;
 
 /// The bytes of a trace. Its text is a line for each record, as `1: op 1, 5 <- 2 4`, and then `N records`, or
 /// the refusal of the bytes that come next.
+// No model: a type with a lifetime would lose Copy by it.
 #[derive(Clone, Copy, Debug)]
 pub struct Listing<'a> {
     bytes: &'a [u8],

@@ -28,7 +28,7 @@ pub struct ReadFault {
 }
 
 impl ReadFault {
-    /// The number of the refusal.
+    /// The number of the refusal, as docs/REFUSALS.md has it.
     pub fn number(self) -> u8
         ensures { result ≡ number_of self }
     {
@@ -57,7 +57,7 @@ pub enum WriteFault {
 }
 
 impl WriteFault {
-    /// The number of the refusal.
+    /// The number of the refusal, as docs/REFUSALS.md has it.
     pub fn number(self) -> u8
         ensures { result ≡ write_number_of self }
     {
@@ -84,6 +84,7 @@ impl From<ReadFault> for TraceFault {
     }
 }
 
+// Two impls, since the library's two errors of want of memory share no trait.
 impl From<AllocError> for TraceFault {
     ghost from_gives = { λ _ r. r ≡ NoMemory };
 

@@ -99,6 +99,7 @@ fn read_cells(bytes: &[u8], count: usize) -> [u16; MOST_CELLS]
     requires { (2 * count ≤ length bytes.now) × (count ≤ 6) }
     ensures { take count result ≡ cells_in count bytes.now }
 {
+    // An array filled to a count, without a heap. A zip with `chunks_exact(2)` was tried: its loop sees no cells.
     let mut cells = [0; MOST_CELLS];
     for (k, cell) in cells[..count].iter_mut().enumerate() {
         *cell = read_cell(&bytes[2 * k..]);

@@ -80,6 +80,7 @@ fn write_cells(out: &mut [u8], cells: &[u16])
     requires { 2 * length cells.now ≤ length out.old }
     ensures { out.new ≡ over (cell_bytes cells.now) out.old }
 {
+    // A zip of `chunks_exact_mut(2)` with the cells was tried: its loop sees no bytes.
     for (k, cell) in cells.iter().enumerate() {
         out[2 * k..2 * k + 2].copy_from_slice(&cell.to_le_bytes());
     }
