@@ -40,6 +40,7 @@ const SET: Row = Row {
 };
 
 /// Cell `to` gets cell `from`.
+// Like a row of the example in `orders`, but with other cells past its read, on purpose.
 fn copy(to: u16, from: u16) -> Row {
     Row {
         operator: 0,

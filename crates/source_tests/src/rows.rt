@@ -32,27 +32,27 @@ struct Judged {
 const JUDGED: [Judged; 11] = [
     Judged {
         cells: 1,
-        rows: [PLAIN, PLAIN, PLAIN],
+        rows: [PLAIN; 3],
         answer: Ok(()),
     },
     Judged {
         cells: 4096,
-        rows: [FULL, FULL, FULL],
+        rows: [FULL; 3],
         answer: Ok(()),
     },
     Judged {
         cells: 5,
-        rows: [FULL, FULL, FULL],
+        rows: [FULL; 3],
         answer: Ok(()),
     },
     Judged {
         cells: 0,
-        rows: [PLAIN, PLAIN, PLAIN],
+        rows: [PLAIN; 3],
         answer: Err(RowsFault::Cells),
     },
     Judged {
         cells: 4097,
-        rows: [FULL, FULL, FULL],
+        rows: [FULL; 3],
         answer: Err(RowsFault::Cells),
     },
     // A written cell that is not below the number of cells.

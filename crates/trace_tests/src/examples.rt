@@ -1,6 +1,7 @@
 //! Worked examples: records, their shortest spelling, and the listings of short traces.
 use listing::Listing;
 use records::{Record, Row};
+use std::alloc::Global;
 use std::process::Abort;
 use std::test::Fail;
 use trace::{TraceReader, read_trace, write_record};
@@ -127,10 +128,16 @@ static LISTINGS: [(&[u8], &str); 12] = [
     (&[0x03, 0x10, 0x07, 0x00], "refused 45 at 0\n"),
 ];
 
+/// The bytes are listed as this text.
+fn listed(rt: &impl Abort, heap: Global, bytes: &[u8], text: &str) -> Result<(), Fail> {
+    assert_eq!(rt; Listing::new(bytes).to_string(heap)?.as_str(), text);
+    Ok(())
+}
+
 #[test]
 fn short_listings(rt: HostRuntime) -> Result<(), Fail> {
     for (bytes, text) in &LISTINGS {
-        assert_eq!(rt; Listing::new(bytes).to_string(rt.alloc())?.as_str(), *text);
+        listed(&rt, rt.alloc(), bytes, text)?;
     }
     Ok(())
 }
@@ -138,20 +145,9 @@ fn short_listings(rt: HostRuntime) -> Result<(), Fail> {
 #[test]
 fn the_longest_listing(rt: HostRuntime) -> Result<(), Fail> {
     let mut bytes = vec![in rt.alloc(); 0u8; 65536]?;
-    assert_eq!(rt;
-        Listing::new(bytes.as_slice())
-            .to_string(rt.alloc())?
-            .as_str(),
-        "refused 43 at 0\n"
-    );
+    listed(&rt, rt.alloc(), bytes.as_slice(), "refused 43 at 0\n")?;
     bytes.push(0)?;
-    assert_eq!(rt;
-        Listing::new(bytes.as_slice())
-            .to_string(rt.alloc())?
-            .as_str(),
-        "refused 48 at 65536\n"
-    );
-    Ok(())
+    listed(&rt, rt.alloc(), bytes.as_slice(), "refused 48 at 65536\n")
 }
 
 #[test]
