@@ -1,3 +1,2 @@
 mod Texts
-pub mod Made
 pub mod Parts

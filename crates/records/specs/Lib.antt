@@ -1,5 +1,4 @@
 pub mod Instance
-pub mod Record
 pub mod Meaning
 pub mod Making
 pub mod Text

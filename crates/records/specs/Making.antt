@@ -1,5 +1,5 @@
 -- What making a record answers.
-use Rattle.std.specs.Prelude.{ℕ, ◌-◌, ◌++◌, if◌then◌else◌, length, replicate, Ok, Err, Result, nat_lt}
+use Rattle.std.specs.Prelude.{ℕ, if◌then◌else◌, Ok, Err, Result, nat_lt}
 use Rattle.records.specs.Instance.{Instance}
 use Rattle.records.specs.Meaning.{row_instance}
 use Rattle.records.specs.declared.fault.RecordFault.{RecordFault}
@@ -18,10 +18,6 @@ judged operator count x = if nat_lt 15 operator then Err Operator else (if nat_l
 -- the same of a row, by what it means
 abbrev pub judged_row : Row → Result Instance RecordFault
 judged_row r = judged r.operator r.count (row_instance r)
-
--- the row of an instance: past its reads stands 0
-abbrev pub row_of : Instance → Row
-row_of i = record { operator = i.operator; written = i.written; count = length i.reads; reads = i.reads ++ replicate (5 - length i.reads) 0 }
 
 -- an answer, with what it holds seen through f
 abbrev pub result_map : {A B E : Type 0} → (A → B) → Result A E → Result B E

@@ -1,5 +1,5 @@
 //! A record: an instance that a trace can hold.
-use crate::row::MOST_READS;
+use crate::row::Row;
 use std::marker::Model;
 
 mod equality;
@@ -8,13 +8,9 @@ mod parts;
 mod text;
 
 /// It means an instance, which its contracts speak of. The operator is at most 15, and there are at most five reads.
-// An array with a count beside it, and no Vec: a record is Copy, without a heap.
 #[derive(Clone, Copy, Debug)]
 pub struct Record {
-    operator: u8,
-    written: u16,
-    count: u8,
-    reads: [u16; MOST_READS],
+    row: Row,
 }
 
 impl Model for Record {
@@ -22,13 +18,13 @@ impl Model for Record {
 
     ghost Value = { Instance };
 
-    ghost use Rattle.records.specs.Record.{IsKept, fields_of, fields_of-instance_of, instance_of};
+    ghost use Rattle.records.specs.Meaning.{IsKept, row_instance, row_of, row_of-row_instance};
 
-    ghost view = { instance_of };
+    ghost view = { λ r. row_instance r.row };
 
-    ghost invariant = { IsKept };
+    ghost invariant = { λ r. IsKept r.row };
 
-    ghost inverse = { fields_of };
+    ghost inverse = { λ i. record { row = row_of i } };
 
-    ghost inverse_ok = { fields_of-instance_of };
+    ghost inverse_ok = { λ r kept. λ i. record { row = row_of-row_instance r.row kept i } };
 }

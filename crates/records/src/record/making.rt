@@ -1,6 +1,7 @@
 //! Records from their parts and from rows, and back to rows.
 ghost use Rattle.std.specs.Prelude.{◌≡◌, ◌≤◌, length};
-ghost use Rattle.records.specs.Making.{judged, judged_row, row_of};
+ghost use Rattle.records.specs.Making.{judged, judged_row};
+ghost use Rattle.records.specs.Meaning.{row_of};
 
 use crate::fault::RecordFault;
 use crate::record::Record;
@@ -26,12 +27,13 @@ impl Record {
     {
         let mut cells = [0; MOST_READS];
         cells[0..reads.len()].copy_from_slice(reads);
-        Record {
+        let row = Row {
             operator,
             written,
             count: reads.len() as u8,
             reads: cells,
-        }
+        };
+        Record { row }
     }
 }
 
@@ -53,13 +55,7 @@ impl From<Record> for Row {
     ghost from_gives = { λ made row. row ≡ row_of made };
 
     fn from(made: Record) -> Row {
-        let reads = made.reads;
-        Row {
-            operator: made.operator,
-            written: made.written,
-            count: made.count,
-            reads,
-        }
+        made.row
     }
 }
 

@@ -9,14 +9,14 @@ impl Record {
         ensures value { result ≡ self.now.operator }
         ensures small { result ≤ 15 }
     {
-        self.operator
+        self.row.operator
     }
 
     /// The cell that is written.
     pub fn written(&self) -> u16
         ensures { result ≡ self.now.written }
     {
-        self.written
+        self.row.written
     }
 
     /// The cells that are read, none to five, in order.
@@ -24,6 +24,6 @@ impl Record {
         ensures cells { result.now ≡ self.now.reads }
         ensures few { length result.now ≤ 5 }
     {
-        &self.reads[0..usize::from(self.count)]
+        &self.row.reads[0..usize::from(self.row.count)]
     }
 }
