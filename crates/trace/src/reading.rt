@@ -8,7 +8,7 @@ use crate::layout::Layout;
 use records::{MOST_READS, Record};
 
 /// The most cells that a record has: the written one, and its reads.
-const MOST_CELLS: usize = 1 + MOST_READS;
+const MOST_RECORD_CELLS: usize = 1 + MOST_READS;
 
 /// The record at the front of some bytes, and how many of them it takes.
 #[derive(Clone, Copy)]
@@ -17,11 +17,13 @@ pub(crate) struct Front {
     pub(crate) size: usize,
 }
 
-impl Layout {
-    /// The layout that a map byte tells.
-    pub(crate) fn from_byte(byte: u8) -> Result<Layout, ReadCause>
-        ensures { result ≡ layout_at byte }
-    {
+/// The layout that a map byte tells.
+impl TryFrom<u8> for Layout {
+    type Error = ReadCause;
+
+    ghost try_from_gives = { λ byte made. made ≡ layout_at byte };
+
+    fn try_from(byte: u8) -> Result<Layout, ReadCause> {
         // Bit 7.
         if byte >= 128 {
             return Err(ReadCause::HighBit);
@@ -48,7 +50,9 @@ impl Layout {
             reads,
         })
     }
+}
 
+impl Layout {
     /// How many cells stand in a record of this layout.
     fn cells(&self) -> usize
         ensures count { result ≡ cells_of self.now }
@@ -79,8 +83,9 @@ impl Layout {
             return Err(ReadCause::PastEnd);
         }
         let operator = if self.operator { bytes[1] } else { 0 };
-        let cells = read_cells(&bytes[self.first_cell()..], self.cells());
-        let cells = &cells[..self.cells()];
+        let mut cells = [0; MOST_RECORD_CELLS];
+        let cells = &mut cells[..self.cells()];
+        read_cells(&bytes[self.first_cell()..], cells);
         let reads = &cells[usize::from(self.written)..];
         Record::new(operator, cells[0], reads).map_err(|_| ReadCause::Operator)
     }
@@ -94,17 +99,15 @@ fn read_cell(bytes: &[u8]) -> u16
     u16::from_le_bytes([bytes[0], bytes[1]])
 }
 
-/// The first `count` cells in some bytes, at the front of an array.
-fn read_cells(bytes: &[u8], count: usize) -> [u16; MOST_CELLS]
-    requires { (2 * count ≤ length bytes.now) × (count ≤ 6) }
-    ensures { take count result ≡ cells_in count bytes.now }
+/// Fills `cells` with the cells at the front of some bytes.
+fn read_cells(bytes: &[u8], cells: &mut [u16])
+    requires { 2 * length cells.old ≤ length bytes.now }
+    ensures { cells.new ≡ cells_in (length cells.old) bytes.now }
 {
-    // An array filled to a count, without a heap. A zip with `chunks_exact(2)` was tried: its loop sees no cells.
-    let mut cells = [0; MOST_CELLS];
-    for (k, cell) in cells[..count].iter_mut().enumerate() {
+    // A zip with `chunks_exact(2)` was tried, and its proof did not close.
+    for (k, cell) in cells.iter_mut().enumerate() {
         *cell = read_cell(&bytes[2 * k..]);
     }
-    cells
 }
 
 /// The record at the front of `rest`, which lies at `place` in the trace; none where nothing is left.
@@ -115,7 +118,7 @@ pub(crate) fn read_front(rest: &[u8], place: usize) -> Result<Option<Front>, Rea
         return Ok(None);
     };
     let placed = |cause| ReadFault { cause, place };
-    let layout = Layout::from_byte(*byte).map_err(placed)?;
+    let layout = Layout::try_from(*byte).map_err(placed)?;
     let found = layout.record(rest).map_err(placed)?;
     let size = layout.size();
     Ok(Some(Front { found, size }))

@@ -40,29 +40,13 @@ impl Layout {
         }
     }
 
-    /// The map byte.
-    pub(crate) fn byte(&self) -> u8
-        ensures { result ≡ byte_of self.now }
-    {
-        // A bit for each read, from the lowest up.
-        let reads = match self.reads {
-            0 => 0,
-            1 => 1,
-            2 => 3,
-            3 => 7,
-            4 => 15,
-            _ => 31,
-        };
-        u8::from(self.operator) + 2 * u8::from(self.written) + 4 * reads
-    }
-
     /// Writes a record of so many reads, in this layout, at the front of `out`.
     fn write(&self, record: &Record, out: &mut [u8])
         requires reads { self.now.reads ≡ length «record».now.reads }
         requires room { size_of self.now ≤ length out.old }
         ensures { out.new ≡ over (spelled self.now «record».now) out.old }
     {
-        out[0] = self.byte();
+        out[0] = u8::from(*self);
         if self.operator {
             out[1] = record.operator();
         }
@@ -75,12 +59,30 @@ impl Layout {
     }
 }
 
+/// The map byte.
+impl From<Layout> for u8 {
+    ghost from_gives = { λ layout byte. byte ≡ byte_of layout };
+
+    fn from(layout: Layout) -> u8 {
+        // A bit for each read, from the lowest up.
+        let reads = match layout.reads {
+            0 => 0,
+            1 => 1,
+            2 => 3,
+            3 => 7,
+            4 => 15,
+            _ => 31,
+        };
+        u8::from(layout.operator) + 2 * u8::from(layout.written) + 4 * reads
+    }
+}
+
 /// Writes cells at the front of `out`, two bytes to a cell, the low byte first.
 fn write_cells(out: &mut [u8], cells: &[u16])
     requires { 2 * length cells.now ≤ length out.old }
     ensures { out.new ≡ over (cell_bytes cells.now) out.old }
 {
-    // A zip of `chunks_exact_mut(2)` with the cells was tried: its loop sees no bytes.
+    // A zip of `chunks_exact_mut(2)` with the cells was tried, and its proof did not close.
     for (k, cell) in cells.iter().enumerate() {
         out[2 * k..2 * k + 2].copy_from_slice(&cell.to_le_bytes());
     }

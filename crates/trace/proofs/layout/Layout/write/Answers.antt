@@ -16,10 +16,10 @@ returns c =
     let front : List ℕ = byte_of y ∷ if_set y.operator i.operator in
     let cell : List ℕ = cell_bytes (if_set y.written i.written) in
     let first : ℕ = c.first_cell-first.result in
-    let w : c.from.result ≡ bit y.written = search rules in
+    let w : c.from-2.result ≡ bit y.written = search rules in
     let at : first ≡ length front = c.first_cell-first.ensures ∙ sym (length_front y.operator (byte_of y) i.operator) in
-    let past : first + 2 * c.from.result ≡ length (front ++ cell) = omega (arith, at, w, length-append front cell, length_written y.written i.written) in
-    let byte = byte_put c.byte.result out (omega arith) ∙ ap (λ (x : ℕ). over (x ∷ []) out) c.byte.ensures in
+    let past : first + 2 * c.from-2.result ≡ length (front ++ cell) = omega (arith, at, w, length-append front cell, length_written y.written i.written) in
+    let byte = byte_put c.from.result out (omega arith) ∙ ap (λ (x : ℕ). over (x ∷ []) out) (c.from.ensures ∙ ap byte_of c.self.view_is) in
     let operator : c.if-self.out ≡ over front out =
     elim c.if-self.branch [
       | then-self w ↦
@@ -36,7 +36,7 @@ returns c =
       | else-self-2 w ↦
           w.out-is ∙ (operator ∙ ap (λ (l : List ℕ). over l out) (no_written y.written i.written front (has_written ∙ w.if-self-2.false)))
     ] in
-    put_rest (first + 2 * c.from.result) (cell_bytes c.reads.result.now) c.write_cells-2.new.out c.if-self-2.out c.write_cells-2.ensures
-    ∙ ((λ j. put (first + 2 * c.from.result) (cell_bytes (c.reads.ensures.cells j)) (written j))
-    ∙ (put_more (front ++ cell) (cell_bytes i.reads) out (first + 2 * c.from.result) past
+    put_rest (first + 2 * c.from-2.result) (cell_bytes c.reads.result.now) c.write_cells-2.new.out c.if-self-2.out c.write_cells-2.ensures
+    ∙ ((λ j. put (first + 2 * c.from-2.result) (cell_bytes (c.reads.ensures.cells j)) (written j))
+    ∙ (put_more (front ++ cell) (cell_bytes i.reads) out (first + 2 * c.from-2.result) past
     ∙ ap (λ (l : List ℕ). over l out) (append_assoc front cell (cell_bytes i.reads) ∙ ap (λ (l : List ℕ). front ++ l) (sym (cell_bytes_append (if_set y.written i.written) i.reads)))))
