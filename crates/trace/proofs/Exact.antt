@@ -9,10 +9,9 @@ use Rattle.records.specs.Instance.{Instance}
 use Rattle.trace.proofs.Bytes.{byte_tells}
 use Rattle.trace.proofs.Held.{length_held, cells_held}
 use Rattle.trace.specs.Layouts.{Fields, bit, byte_of, cells_of, size_of, if_set}
-use Rattle.trace.specs.Reading.{cells_in, found, layout_at, record_at, read_at}
+use Rattle.trace.specs.Reading.{Piece, cells_in, found, layout_at, read_at, record_at}
 use Rattle.trace.specs.Spelling.{Spells, Unambiguous}
 use Rattle.trace.specs.declared.fault.ReadFault.{ReadFault}
-use Rattle.trace.specs.declared.reading.Front.{Front}
 
 -- the written cell is the first of the cells that stand
 first_is : (w : Bool) (c : ℕ) (rs : List ℕ) → (w ≡ false → slice_get rs 0 ≡ Some c) → get_or (if_set w c ++ rs) 0 0 ≡ c
@@ -87,11 +86,11 @@ module _ (s t : List ℕ) (i : Instance) (h : Spells s i) where
       (omega (arith, count, some_is h.fields.written i.written i.reads h.written))
 
   -- a record is read wherever its spelling begins the bytes
-  pub spelled_read : (p : ℕ) → read_at p (s ++ t) ≡ Ok (Some (record { found = i; size = length s }))
+  pub spelled_read : (p : ℕ) → read_at p (s ++ t) ≡ Ok (Some (record { meaning = i; size = length s }))
   unfolding laid
   spelled_read p = rw (laid_is, laid_layout, laid_record, size_is) refl
 
-same_front : (i j : Instance) (m n : ℕ) → ◌≡◌ {A = Result (Option Front) ReadFault} (Ok (Some (record { found = i; size = m }))) (Ok (Some (record { found = j; size = n }))) → (m ≡ n) × (i ≡ j)
+same_front : (i j : Instance) (m n : ℕ) → ◌≡◌ {A = Result (Option Piece) ReadFault} (Ok (Some (record { meaning = i; size = m }))) (Ok (Some (record { meaning = j; size = n }))) → (m ≡ n) × (i ≡ j)
 same_front i j m n e = grind arith
 
 -- two spellings that begin the same bytes are one

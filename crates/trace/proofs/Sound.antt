@@ -11,9 +11,8 @@ use Rattle.records.specs.Making.{result_map}
 use Rattle.trace.proofs.Bytes.{Told, byte_from}
 use Rattle.trace.proofs.Held.{held_cells}
 use Rattle.trace.specs.Layouts.{Fields, bit, cells_of, size_of, if_set}
-use Rattle.trace.specs.Reading.{and_then, cells_in, found, layout_at, record_at, read_at}
+use Rattle.trace.specs.Reading.{Piece, and_then, cells_in, found, layout_at, read_at, record_at}
 use Rattle.trace.specs.Spelling.{Spells}
-use Rattle.trace.specs.declared.reading.Front.{Front}
 
 then_ok : {A B E F : Type 0} (g : E → F) (r : Result A E) (f : A → Result B E) (x : B) → result_map_both (λ y. y) g (and_then r f) ≡ Ok x → (a : A) × (r ≡ Ok a) × (f a ≡ Ok x)
 then_ok g r f x e = grind arith
@@ -72,7 +71,7 @@ module _ (b : ℕ) (bs : List ℕ) (y : Fields) (told : Told b y) (fits : size_o
   }
 
 -- the record that is read is spelled by the bytes that it takes
-pub read_spelled : (p : ℕ) (bs : List ℕ) (x : Front) → read_at p bs ≡ Ok (Some x) → Spells (take x.size bs) x.found × (x.size ≤ length bs)
+pub read_spelled : (p : ℕ) (bs : List ℕ) (x : Piece) → read_at p bs ≡ Ok (Some x) → Spells (take x.size bs) x.meaning × (x.size ≤ length bs)
 read_spelled p [] x e = cc
 read_spelled p (b ∷ bs) x e =
     let (y, tells, more) = then_ok _ (layout_at b) _ (Some x) e in

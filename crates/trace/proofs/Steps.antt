@@ -9,15 +9,14 @@ use Rattle.trace.proofs.Exact.{spelled_read}
 use Rattle.trace.proofs.Sound.{none_left, read_spelled}
 use Rattle.trace.specs.Faults.{place_of}
 use Rattle.trace.specs.Reader.{Cursor, Finds, left, stepped}
-use Rattle.trace.specs.Reading.{read_at}
+use Rattle.trace.specs.Reading.{Piece, read_at}
 use Rattle.trace.specs.Spelling.{Spells}
 use Rattle.trace.specs.declared.fault.ReadCause.{ReadCause}
 use Rattle.trace.specs.declared.fault.ReadFault.{ReadFault}
-use Rattle.trace.specs.declared.reading.Front.{Front}
 
 -- the meaning of what was read
-abbrev pub answer : Result (Option Front) ReadFault → Result (Option Instance) ReadFault
-answer r = result_map (option_map (λ x. x.found)) r
+abbrev pub answer : Result (Option Piece) ReadFault → Result (Option Instance) ReadFault
+answer r = result_map (option_map (λ x. x.meaning)) r
 
 -- what was passed, and what is left after it
 passed : (c : Cursor) (n : ℕ) → take (c.place + n - c.place) (left c) ≡ take n (left c)
@@ -34,10 +33,10 @@ fault_place : (p : ℕ) (bs : List ℕ) (f : ReadFault) → read_at p bs ≡ Err
 fault_place p [] f e = cc
 fault_place p (b ∷ bs) f e = placed_at p _ f e
 
-step_by : (c : Cursor) (r : Result (Option Front) ReadFault) → read_at c.place (left c) ≡ r → Finds c (answer r) (stepped c r)
+step_by : (c : Cursor) (r : Result (Option Piece) ReadFault) → read_at c.place (left c) ≡ r → Finds c (answer r) (stepped c r)
 step_by c (Ok None) e = (none_left c.place (left c) e, refl)
 step_by c (Ok (Some x)) e = (
-  subst (λ (l : List ℕ). Spells l x.found) (sym (passed c x.size)) (read_spelled c.place (left c) x e).0,
+  subst (λ (l : List ℕ). Spells l x.meaning) (sym (passed c x.size)) (read_spelled c.place (left c) x e).0,
   sym (take-append-drop x.size (left c)) ∙ (λ i. sym (passed c x.size) i ++ sym (beyond c x.size) i),
 )
 step_by c (Err f) e = (
@@ -47,5 +46,5 @@ step_by c (Err f) e = (
 )
 
 -- a step finds what is spelled, once it is known what was read
-pub step_finds : (c : Cursor) (x : Result (Option Front) ReadFault) → x ≡ read_at c.place (take (length c.bytes - c.place) (left c)) → Finds c (answer x) (stepped c x)
+pub step_finds : (c : Cursor) (x : Result (Option Piece) ReadFault) → x ≡ read_at c.place (take (length c.bytes - c.place) (left c)) → Finds c (answer x) (stepped c x)
 step_finds c x e = step_by c x (sym (e ∙ ap (read_at c.place) (take_rest c.bytes c.place)))

@@ -4,11 +4,10 @@ use Rattle.std.specs.Option.{option_map}
 use Rattle.records.specs.Instance.{Instance}
 use Rattle.records.specs.Making.{result_map}
 use Rattle.trace.specs.Faults.{place_of}
-use Rattle.trace.specs.Reading.{read_at}
+use Rattle.trace.specs.Reading.{Piece, read_at}
 use Rattle.trace.specs.Spelling.{Spells}
 use Rattle.trace.specs.declared.fault.ReadFault.{ReadFault}
 use Rattle.trace.specs.declared.reader.TraceReader.{TraceReader}
-use Rattle.trace.specs.declared.reading.Front.{Front}
 
 -- where a reader stands: the whole trace, where the record begins that was read last, and the place it came to
 pub record Cursor : Type 0 where
@@ -29,7 +28,7 @@ abbrev pub spelling : Cursor → List ℕ
 spelling c = take (c.place - c.start) (drop c.start c.bytes)
 
 -- a step passes the record that it found, and else goes nowhere
-abbrev pub stepped : Cursor → Result (Option Front) ReadFault → Cursor
+abbrev pub stepped : Cursor → Result (Option Piece) ReadFault → Cursor
 stepped c (Ok (Some x)) = record { bytes = c.bytes; start = c.place; place = c.place + x.size }
 stepped c (Ok None) = c
 stepped c (Err f) = c
@@ -40,7 +39,7 @@ after c = stepped c (read_at c.place (left c))
 
 -- what the next step answers: the record that is read
 abbrev pub next : Cursor → Result (Option Instance) ReadFault
-next c = result_map (option_map (λ x. x.found)) (read_at c.place (left c))
+next c = result_map (option_map (λ x. x.meaning)) (read_at c.place (left c))
 
 -- a step finds exactly what is spelled: none only at the end, a record whose spelling it passes, and a refusal only
 -- where no record is spelled

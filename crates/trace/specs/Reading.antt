@@ -7,7 +7,6 @@ use Rattle.trace.specs.Layouts.{Fields, bit, cells_of, size_of}
 use Rattle.trace.specs.declared.fault.ReadCause.{ReadCause}
 use Rattle.trace.specs.declared.fault.ReadCause.TheVariants.{HighBit, Gap, NoCell, PastEnd, Operator}
 use Rattle.trace.specs.declared.fault.ReadFault.{ReadFault}
-use Rattle.trace.specs.declared.reading.Front.{Front}
 
 -- the rest of a computation, where its first part did not fail
 abbrev pub and_then : {A B E : Type 0} → Result A E → (A → Result B E) → Result B E
@@ -60,9 +59,14 @@ record_at bs y =
     else (if nat_lt 15 (found y bs).operator then Err Operator
     else Ok (found y bs))
 
+-- a record that was read: its meaning, and how many bytes it took
+pub record Piece : Type 0 where
+  pub meaning : Instance
+  pub size : ℕ
+
 -- the record at the front of bytes that lie at place p of the trace, and its size, or none where no bytes are left
-abbrev pub read_at : ℕ → List ℕ → Result (Option Front) ReadFault
+abbrev pub read_at : ℕ → List ℕ → Result (Option Piece) ReadFault
 read_at p [] = Ok None
 read_at p (b ∷ bs) =
     result_map_both (λ x. x) (λ c. record { cause = c; place = p })
-    (and_then (layout_at b) (λ y. result_map (λ i. Some (record { found = i; size = size_of y })) (record_at (b ∷ bs) y)))
+    (and_then (layout_at b) (λ y. result_map (λ i. Some (record { meaning = i; size = size_of y })) (record_at (b ∷ bs) y)))

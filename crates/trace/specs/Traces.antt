@@ -1,12 +1,11 @@
 -- Whole traces.
 use Rattle.std.specs.Prelude.{◌≡◌, ℕ, zero, suc, ◌+◌, List, [], ◌∷◌, ◌++◌, length, drop, Some, None, Ok, Err, Option, Result}
 use Rattle.records.specs.Instance.{Instance}
-use Rattle.trace.specs.Reading.{read_at}
+use Rattle.trace.specs.Reading.{Piece, read_at}
 use Rattle.trace.specs.Spelling.{Spells}
 use Rattle.trace.specs.declared.fault.ReadFault.{ReadFault}
 use Rattle.trace.specs.declared.fault.TraceFault.{TraceFault}
 use Rattle.trace.specs.declared.fault.TraceFault.TheVariants.{Read, NoMemory}
-use Rattle.trace.specs.declared.reading.Front.{Front}
 
 -- the bytes are spellings of these records, one after the other
 abbrev pub SpellAll : List ℕ → List Instance → Type 0
@@ -19,14 +18,14 @@ pub record Walk : Type 0 where
   pub stop : Option ReadFault
 
 -- how far a step goes
-abbrev pub size_read : Result (Option Front) ReadFault → ℕ
+abbrev pub size_read : Result (Option Piece) ReadFault → ℕ
 size_read (Ok (Some x)) = x.size
 size_read (Ok None) = 0
 size_read (Err f) = 0
 
 -- one step, and the walk from there on
-abbrev pub from_step : Result (Option Front) ReadFault → Walk → Walk
-from_step (Ok (Some x)) w = record { taken = x.found ∷ w.taken; stop = w.stop }
+abbrev pub from_step : Result (Option Piece) ReadFault → Walk → Walk
+from_step (Ok (Some x)) w = record { taken = x.meaning ∷ w.taken; stop = w.stop }
 from_step (Ok None) w = record { taken = []; stop = None }
 from_step (Err f) w = record { taken = []; stop = Some f }
 

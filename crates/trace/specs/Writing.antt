@@ -47,4 +47,4 @@ Shortest i = Spells (shortest i) i × ((s : List ℕ) → Spells s i → length 
 
 -- what is written reads back as the record, at any place and whatever bytes follow
 abbrev pub ReadsBack : Instance → Type 0
-ReadsBack i = (p : ℕ) (t : List ℕ) → read_at p (shortest i ++ t) ≡ Ok (Some (record { found = i; size = length (shortest i) }))
+ReadsBack i = (p : ℕ) (t : List ℕ) → read_at p (shortest i ++ t) ≡ Ok (Some (record { meaning = i; size = length (shortest i) }))

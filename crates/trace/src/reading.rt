@@ -6,6 +6,7 @@ ghost use Rattle.trace.specs.Reading.{cell_in, cells_in, layout_at, read_at, rec
 use crate::fault::{ReadCause, ReadFault};
 use crate::layout::Layout;
 use records::{MOST_READS, Record};
+use std::marker::Model;
 
 /// The most cells that a record has: the written one, and its reads.
 const MOST_RECORD_CELLS: usize = 1 + MOST_READS;
@@ -15,6 +16,16 @@ const MOST_RECORD_CELLS: usize = 1 + MOST_READS;
 pub(crate) struct Front {
     pub(crate) found: Record,
     pub(crate) size: usize,
+}
+
+impl Model for Front {
+    ghost use Rattle.trace.specs.Reading.{Piece};
+
+    ghost Value = { Piece };
+
+    ghost view = { λ x. record { meaning = x.found; size = x.size } };
+
+    ghost inverse = { λ x. record { found = x.meaning; size = x.size } };
 }
 
 /// The layout that a map byte tells.
