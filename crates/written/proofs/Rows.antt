@@ -9,7 +9,7 @@ use Rattle.std.proofs.lemmas.List.Elements.{All-cons, All-nil}
 use Rattle.std.proofs.lemmas.List.Quantifiers.{position-Some}
 use Rattle.std.proofs.lemmas.List.Sums.{count_by_more_no, count_by_more_yes, fails_before_first, length-filter, sum_by-cons}
 use Rattle.std.proofs.lemmas.List.Filters.{length-filter_more}
-use Rattle.std.specs.List.{AllPass, enumerate_from, position_or_len, slice_get}
+use Rattle.std.specs.List.{All, AllPass, enumerate_from, position_or_len, slice_get}
 use Rattle.records.specs.Instance.{Instance}
 use Rattle.records.specs.Meaning.{row_instance}
 use Rattle.records.specs.declared.row.Row.{Row}
@@ -19,7 +19,9 @@ use Rattle.sources.proofs.Totals.{total_more}
 use Rattle.sources.proofs.Writers.{earlier_next, earlier_none, earlier_past, writer_absent, writer_from}
 use Rattle.sources.specs.Numbers.{total}
 use Rattle.sources.specs.Questions.{earlier, slots_at, slots_of, writer, writes_at}
+use Rattle.sources.specs.Sound.{Fitting}
 use Rattle.written.specs.Rows.{first_misfit, row_fits}
+use Rattle.written.specs.Sound.{all_passed}
 
 -- the row that stands for none
 abbrev blank : Row
@@ -149,14 +151,18 @@ fit_first true (Some x) e = absurd (true≢false e)
 fit_first false o e = absurd (true≢false e)
 
 -- where no row is found that does not fit, all do
+no_misfit : (C : ℕ) (rows : List Row) → is_some (first_misfit C rows) ≡ false → AllPass (row_fits C) rows
+no_misfit C [] e = All-nil (λ r. row_fits C r ≡ true)
+no_misfit C (r ∷ rs) e =
+    let (fits, rest) = fit_first (row_fits C r) (first_misfit C rs) (ap is_some (sym (misfit_first C r rs)) ∙ e) in
+    All-cons (λ r. row_fits C r ≡ true) r rs fits (no_misfit C rs rest)
+
 pub all_rows_fit : (C : ℕ) (rows : List Row) → first_misfit C rows ≡ None → AllPass (row_fits C) rows
-all_rows_fit C rows e = none rows (ap is_some e)
-  where
-    none : (rs : List Row) → is_some (first_misfit C rs) ≡ false → AllPass (row_fits C) rs
-    none [] e = All-nil (λ r. row_fits C r ≡ true)
-    none (r ∷ rs) e =
-        let (fits, rest) = fit_first (row_fits C r) (first_misfit C rs) (ap is_some (sym (misfit_first C r rs)) ∙ e) in
-        All-cons (λ r. row_fits C r ≡ true) r rs fits (none rs rest)
+all_rows_fit C rows e = no_misfit C rows (ap is_some e)
+
+-- and so do the instances that they mean
+pub all_fit : (C : ℕ) (rows : List Row) → is_some (first_misfit C rows) ≡ false → All (Fitting C) (map row_instance rows)
+all_fit C rows e = all_passed C rows (no_misfit C rows e)
 
 -- a misfit is one of the rows
 pub misfit_below : (C : ℕ) (rows : List Row) (p : ℕ) → first_misfit C rows ≡ Some p → p < length rows

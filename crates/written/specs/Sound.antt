@@ -12,7 +12,7 @@ use Rattle.records.specs.declared.fault.RecordFault.TheVariants.{Operator, Reads
 use Rattle.records.specs.declared.row.Row.{Row}
 use Rattle.sources.specs.Sound.{Fitting, Sound}
 use Rattle.written.specs.Rows.{all_below, judged_fits, row_fits}
-use Rattle.written.specs.Meaning.{rows_list}
+use Rattle.written.specs.Meaning.{cells_of, rows_list}
 use Rattle.written.specs.declared.list.WrittenList.{WrittenList}
 
 -- cells that pass the test are below C
@@ -49,14 +49,14 @@ fitting C r e =
     }
 
 -- where all rows fit, so do the instances that they mean
-all_fit : (C : ℕ) (rs : List Row) → AllPass (row_fits C) rs → All (Fitting C) (map row_instance rs)
-all_fit C rs h = All-map (Fitting C) row_instance rs (λ k d l. fitting C _ (h k d l))
+pub all_passed : (C : ℕ) (rs : List Row) → AllPass (row_fits C) rs → All (Fitting C) (map row_instance rs)
+all_passed C rs h = All-map (Fitting C) row_instance rs (λ k d l. fitting C _ (h k d l))
 
-pub rows_sound : (w : WrittenList) → Sound w.cells (rows_list w)
+pub rows_sound : (w : WrittenList) → Sound (cells_of w) (rows_list w)
 rows_sound w =
     record {
       some_cells = w.some_cells;
       few_cells = w.few_cells;
       short = omega (arith, length-map w.rows.now row_instance, w.few_rows);
-      fitting = all_fit w.cells w.rows.now w.fit;
+      fitting = all_passed w.cells w.rows.now w.fit;
     }

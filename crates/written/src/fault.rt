@@ -20,8 +20,7 @@ impl RowsFault {
     {
         match self {
             RowsFault::TooMany => 21,
-            RowsFault::Cells => 22,
-            RowsFault::Misfit { .. } => 22,
+            RowsFault::Cells | RowsFault::Misfit { .. } => 22,
         }
     }
 
@@ -31,8 +30,7 @@ impl RowsFault {
         ensures { result ≡ row_of self }
     {
         match self {
-            RowsFault::TooMany => 0,
-            RowsFault::Cells => 0,
+            RowsFault::TooMany | RowsFault::Cells => 0,
             RowsFault::Misfit { row } => row,
         }
     }

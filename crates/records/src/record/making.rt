@@ -26,7 +26,7 @@ impl Record {
         ensures { result ≡ record { operator = operator; written = written; reads = reads.now } }
     {
         let mut cells = [0; MOST_READS];
-        cells[0..reads.len()].copy_from_slice(reads);
+        cells[..reads.len()].copy_from_slice(reads);
         let row = Row {
             operator,
             written,
@@ -46,7 +46,7 @@ impl TryFrom<Row> for Record {
     fn try_from(row: Row) -> Result<Record, RecordFault> {
         let count = usize::from(row.count);
         judge(row.operator, count)?;
-        Ok(Record::keep(row.operator, row.written, &row.reads[0..count]))
+        Ok(Record::keep(row.operator, row.written, &row.reads[..count]))
     }
 }
 

@@ -24,6 +24,6 @@ impl Record {
         ensures cells { result.now ≡ self.now.reads }
         ensures few { length result.now ≤ 5 }
     {
-        &self.row.reads[0..usize::from(self.row.count)]
+        &self.row.reads[..usize::from(self.row.count)]
     }
 }

@@ -4,7 +4,7 @@ ghost use Rattle.std.specs.Result.{IfOk, is_ok};
 ghost use Rattle.records.specs.Making.{result_map};
 ghost use Rattle.records.specs.Meaning.{row_instance};
 ghost use Rattle.written.specs.Rows.{all_below, first_misfit, row_fits, rows_judged};
-ghost use Rattle.written.specs.Meaning.{rows_list};
+ghost use Rattle.written.specs.Meaning.{cells_of, rows_list};
 
 use crate::fault::RowsFault;
 use crate::list::WrittenList;
@@ -17,7 +17,7 @@ pub const MOST_ROWS: usize = 8192;
 impl<'a> WrittenList<'a> {
     /// The list of one cell and no rows.
     pub fn new() -> WrittenList<'a>
-        ensures cells { result.cells ≡ 1 }
+        ensures cells { cells_of result ≡ 1 }
         ensures list { rows_list result ≡ [] }
     {
         WrittenList {
@@ -30,7 +30,7 @@ impl<'a> WrittenList<'a> {
     #[tactic(auto, using(crate::proofs::Rows::all_rows_fit, crate::proofs::Rows::misfit_below))]
     pub fn from_rows(cells: u16, rows: &'a [Row]) -> Result<WrittenList<'a>, RowsFault>
         ensures answer { result_map (λ _. tt) result ≡ rows_judged cells rows.now }
-        ensures cells { IfOk result (λ made. made.cells ≡ cells) }
+        ensures cells { IfOk result (λ made. cells_of made ≡ cells) }
         ensures list { IfOk result (λ made. rows_list made ≡ map row_instance rows.now) }
     {
         if rows.len() > MOST_ROWS {
@@ -48,7 +48,7 @@ impl<'a> WrittenList<'a> {
     /// Takes these cells and rows in place of its own; a refusal leaves the list as it was.
     pub fn load(&mut self, cells: u16, rows: &'a [Row]) -> Result<(), RowsFault>
         ensures answer { result ≡ rows_judged cells rows.now }
-        ensures cells { self.new.cells ≡ (if is_ok result then cells else self.old.cells) }
+        ensures cells { cells_of self.new ≡ (if is_ok result then cells else cells_of self.old) }
         ensures list { rows_list self.new ≡ (if is_ok result then map row_instance rows.now else rows_list self.old) }
     {
         *self = WrittenList::from_rows(cells, rows)?;

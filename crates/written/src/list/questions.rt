@@ -3,7 +3,7 @@ ghost use Rattle.std.specs.Prelude.{◌≡◌, ◌≤◌};
 ghost use Rattle.records.specs.Meaning.{row_instance};
 ghost use Rattle.sources.specs.Questions.{slots_of};
 ghost use Rattle.written.specs.Sound.{rows_sound};
-ghost use Rattle.written.specs.Meaning.{rows_list};
+ghost use Rattle.written.specs.Meaning.{cells_of, rows_list};
 
 use crate::list::WrittenList;
 use records::{Record, Row};
@@ -11,7 +11,7 @@ use sources::Source;
 
 /// Its list is what the rows mean, in sequence.
 impl Source for WrittenList<'_> {
-    ghost size = { λ x. x.cells };
+    ghost size = { cells_of };
 
     ghost list = { rows_list };
 
