@@ -5,6 +5,7 @@ use Rattle.records.specs.Text.{text}
 use Rattle.trace.specs.Faults as faults
 use Rattle.trace.specs.Traces.{Ends, SpellAll, whole}
 use Rattle.trace.specs.declared.fault.ReadFault.{ReadFault}
+use Rattle.listing.specs.declared.listing.Listing.{Listing}
 use Rattle.listing.specs.declared.fault.ListFault.{ListFault}
 use Rattle.listing.specs.declared.fault.ListFault.TheVariants.{TooLong, Read}
 
@@ -31,6 +32,10 @@ abbrev pub lines : ℕ → List Instance → Option ReadFault → List ℕ
 lines n [] None = decimal n ++ codes " records\n"
 lines n [] (Some f) = refused_text (Read f) ++ codes "\n"
 lines n (i ∷ is) o = line (n + 1) i ++ lines (n + 1) is o
+
+-- the bytes that a listing lists
+abbrev pub bytes_of : Listing → List ℕ
+bytes_of x = x.bytes.now
 
 -- the text of a trace, which has at most 65,536 bytes
 abbrev pub listing : List ℕ → List ℕ

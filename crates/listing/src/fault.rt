@@ -19,6 +19,7 @@ pub enum ListFault {
 
 impl ListFault {
     /// The number of the refusal, as docs/REFUSALS.md has it.
+    // A number for users, and no code for callers: the kind is the enum.
     pub fn number(self) -> u8
         ensures { result ≡ number_of self }
     {

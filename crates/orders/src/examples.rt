@@ -8,6 +8,7 @@ ghost use Rattle.orders.specs.Theorems.{OrdersCompose, OrdersTurn, OwnOrder};
 use records::Row;
 
 /// The row that writes one cell from another, by operator 0.
+// A test of sources has a row like it, with other cells past its read on purpose.
 fn copy_row(to: u16, from: u16) -> Row
     ensures { row_instance result ≡ copy to from }
 {

@@ -13,6 +13,7 @@ pub enum RecordFault {
 
 impl RecordFault {
     /// The number of the refusal, as docs/REFUSALS.md has it.
+    // A number for users, and no code for callers: the kind is the enum.
     pub fn number(self) -> u8
         ensures { result ≡ number_of self }
     {

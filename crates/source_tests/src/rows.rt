@@ -138,21 +138,16 @@ const JUDGED: [Judged; 11] = [
     },
 ];
 
-/// A list that holds the first row is given all rows, and keeps the first where these are refused.
-fn judge(
-    rt: &impl Abort,
-    cells: u16,
-    rows: &[Row],
-    answer: Result<(), RowsFault>,
-) -> Result<(), Fail> {
+/// A list that holds the first row is given the rows of the case, which follow, and keeps the first where they are refused.
+fn judge(rt: &impl Abort, case: &Judged, rows: &[Row]) -> Result<(), Fail> {
     let mut list = WrittenList::new();
     assert!(rt; rows.len() == 4);
     list.load(5, &rows[0..1])?;
-    let given = list.load(cells, &rows[1..4]);
-    assert_eq!(rt; given, answer);
+    let given = list.load(case.cells, &rows[1..4]);
+    assert_eq!(rt; given, case.answer);
     match given {
         Ok(()) => {
-            assert_eq!(rt; list.cells(), cells);
+            assert_eq!(rt; list.cells(), case.cells);
             assert_eq!(rt; list.length(), 3);
             Ok(())
         }
@@ -172,7 +167,7 @@ fn rows_are_judged(rt: HostRuntime) -> Result<(), Fail> {
     for case in &cases {
         let [a, b, c] = case.rows;
         let rows = [FULL, a, b, c];
-        judge(&rt, case.cells, &rows, case.answer)?;
+        judge(&rt, case, &rows)?;
     }
     Ok(())
 }

@@ -29,6 +29,7 @@ pub struct ReadFault {
 
 impl ReadFault {
     /// The number of the refusal, as docs/REFUSALS.md has it.
+    // A number for users, and no code for callers: the kind is the enum.
     pub fn number(self) -> u8
         ensures { result ≡ number_of self }
     {
@@ -58,6 +59,7 @@ pub enum WriteFault {
 
 impl WriteFault {
     /// The number of the refusal, as docs/REFUSALS.md has it.
+    // A number for users, and no code for callers: the kind is the enum.
     pub fn number(self) -> u8
         ensures { result ≡ write_number_of self }
     {
@@ -84,7 +86,7 @@ impl From<ReadFault> for TraceFault {
     }
 }
 
-// Two impls, since the library's two errors of want of memory share no trait.
+// Two impls: the library's two errors of want of memory share no trait, and callers may meet either.
 impl From<AllocError> for TraceFault {
     ghost from_gives = { λ _ r. r ≡ NoMemory };
 

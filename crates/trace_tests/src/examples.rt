@@ -78,10 +78,7 @@ fn round_trip(rt: &impl Abort, example: &Example) -> Result<(), Fail> {
     assert_eq!(rt; &out[0..size], example.bytes);
     assert_eq!(rt; out[size], 0xee);
     let mut reader = TraceReader::new(&out);
-    let Some(back) = reader.next_record()? else {
-        return Err(Fail::new("no record"));
-    };
-    assert_eq!(rt; back, record);
+    assert_eq!(rt; reader.next_record()?, Some(record));
     assert_eq!(rt; reader.place(), size);
     let mut short = [0xee; 16];
     let Err(fault) = write_record(&record, &mut short[0..size - 1]) else {

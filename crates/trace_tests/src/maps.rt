@@ -32,9 +32,9 @@ fn read(rt: &impl Abort, heap: Global, bytes: &[u8], size: usize, text: &str) ->
 
 #[test]
 fn every_map_byte(rt: HostRuntime) -> Result<(), Fail> {
-    for map in 0..=255u8 {
+    for (map, case) in (0..=255u8).zip(&CASES) {
         let bytes = [map, 1, 2, 3, 4, 5, 6, 7, 8, 9, 10, 11, 12, 13];
-        match CASES[usize::from(map)] {
+        match *case {
             Err(number) => {
                 refused(&rt, &bytes, number)?;
                 refused(&rt, &bytes[0..1], number)?;

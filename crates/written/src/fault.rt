@@ -15,6 +15,7 @@ pub enum RowsFault {
 
 impl RowsFault {
     /// The number of the refusal, as docs/REFUSALS.md has it.
+    // A number for users, and no code for callers: the kind is the enum.
     pub fn number(self) -> u8
         ensures { result ≡ number_of self }
     {
@@ -25,7 +26,7 @@ impl RowsFault {
     }
 
     /// The row that is refused, counted from 1; 0 where it is none of them.
-    // A number and no Option: docs/REFUSALS.md gives each 22 a row, and 0 to the number of cells.
+    // A number and no Option: docs/REFUSALS.md gives every refusal of rows a row, and 0 where it is none of them.
     pub fn row(self) -> usize
         ensures { result ≡ row_of self }
     {

@@ -11,7 +11,7 @@ mod questions;
 pub use making::MOST_ROWS;
 
 /// A number of cells, and rows that are records with cells below it.
-// No model: a type with a lifetime would lose Copy by it. `rows_list` in specs/ shows its list.
+// No model, since a type with a lifetime would lose Copy by it, which layers over one list need.
 #[derive(Clone, Copy)]
 pub struct WrittenList<'a> {
     cells: u16,

@@ -56,8 +56,8 @@ impl<'a> WrittenList<'a> {
     }
 }
 
-// The number of cells goes beside the rows here, since what holds both is the list that these functions make.
 /// The position of the first row that does not fit.
+// The number of cells goes beside the rows: what holds both is the list that is made once they are judged.
 fn first_misfit(cells: u16, rows: &[Row]) -> Option<usize>
     ensures { result ≡ first_misfit cells rows.now }
 {
