@@ -8,11 +8,11 @@ use trace::TraceReader;
 /// The bytes at the front of `bytes` are refused by this number, and the reader stays where it is.
 fn refused(rt: &impl Abort, bytes: &[u8], number: u8) -> Result<(), Fail> {
     let mut reader = TraceReader::new(bytes);
-    let Err(fault) = reader.next_record() else {
-        return Err(Fail::new("not refused"));
-    };
-    assert_eq!(rt; fault.number(), number);
-    assert_eq!(rt; fault.place(), 0);
+    let answer = reader.next_record();
+    assert_eq!(rt;
+        answer.map_err(|fault| (fault.number(), fault.place())),
+        Err((number, 0))
+    );
     assert_eq!(rt; reader.place(), 0);
     Ok(())
 }
@@ -20,6 +20,7 @@ fn refused(rt: &impl Abort, bytes: &[u8], number: u8) -> Result<(), Fail> {
 /// The bytes begin with a record of this size and text.
 fn read(rt: &impl Abort, heap: Global, bytes: &[u8], size: usize, text: &str) -> Result<(), Fail> {
     let mut reader = TraceReader::new(bytes);
+    // Not by `ok_or`: a `Fail` may not be let go.
     let Some(record) = reader.next_record()? else {
         return Err(Fail::new("no record"));
     };
