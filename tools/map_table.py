@@ -41,6 +41,7 @@ def main():
     print("//! What each map byte gives, with the bytes 1 to 13 after it. Written by tools/map_table.py.")
     print()
     print("/// By map byte: how many bytes the record has that they begin, and its text, or the number of the refusal.")
+    print("// A number and no fault of the library's, since the table is worked out without it.")
     print("pub static CASES: [Result<(usize, &'static str), u8>; 256] = [")
     for byte in range(256):
         number, size, text = outcome(byte)

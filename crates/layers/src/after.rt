@@ -82,6 +82,7 @@ impl<A: Source, B: Source> Source for After<A, B> {
         if !self.fits() {
             return None;
         }
+        // By `?`: as a closure for `map` it was tried, and the proof that the sum fits did not close.
         let position = self.second.writer(cell, count - writes)?;
         Some(length + position)
     }

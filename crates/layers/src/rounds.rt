@@ -85,12 +85,14 @@ impl<S: Source> Source for Rounds<S> {
         if turn >= self.turns() {
             return None;
         }
+        // By `?`: as a closure for `map` it was tried, and the proof that the sum fits did not close.
         let position = self.below.writer(cell, count % writes)?;
         Some(turn * length + position)
     }
 
     fn earlier(&self, cell: u16, position: u32) -> u32 {
         let length = self.below.length();
+        // By a test: `checked_div` with `let .. else` answers the same value, and is no plainer.
         if length == 0 {
             return 0;
         }
@@ -102,6 +104,7 @@ impl<S: Source> Source for Rounds<S> {
 
     fn readers(&self, cell: u16, version: u32) -> u32 {
         let writes = self.below.writes(cell);
+        // By a test: `checked_div` with `let .. else` answers the same value, and is no plainer.
         if writes == 0 {
             return self.turns() * self.below.readers(cell, version);
         }

@@ -1,6 +1,7 @@
 //! What each map byte gives, with the bytes 1 to 13 after it. Written by tools/map_table.py.
 
 /// By map byte: how many bytes the record has that they begin, and its text, or the number of the refusal.
+// A number and no fault of the library's, since the table is worked out without it.
 pub static CASES: [Result<(usize, &'static str), u8>; 256] = [
     Err(43),
     Err(43),
