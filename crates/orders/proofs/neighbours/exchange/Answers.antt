@@ -15,19 +15,15 @@ returns-then-conflict-clause-answer c = (
   λ h. absurd (bound_from c.args.order.now c.args.at c.index-order-at.result c.index-order-at-2.result c.index-order-at.is c.index-order-at-2.is (omega arith) (c.conflict.ensures.0 c.if-conflict.true) h),
 )
 
+-- the two do not conflict
+free : (c : goal.After-order-1) → Conflict c.index-order-at.result c.index-order-at-2.result → ⊥
+free c h = both_ways c.conflict.result c.if-conflict.false (c.conflict.ensures.1 h)
+
 pub returns-clause-answer : goal.returns-clause-answer
-returns-clause-answer c =
-    let x = c.index-order-at.result in
-    let y = c.index-order-at-2.result in
-    let free : Conflict x y → ⊥ = λ h. both_ways c.conflict.result c.if-conflict.false (c.conflict.ensures.1 h) in
-    (λ e. free_from c.args.order.now c.args.at x y c.index-order-at.is c.index-order-at-2.is (omega arith) free, λ h. refl)
+returns-clause-answer c = (λ e. free_from c.args.order.now c.args.at _ _ c.index-order-at.is c.index-order-at-2.is (omega arith) (free c), λ h. refl)
 
 pub returns-clause-faithful : goal.returns-clause-faithful
-returns-clause-faithful c =
-    let x = c.index-order-at.result in
-    let y = c.index-order-at-2.result in
-    let free : Conflict x y → ⊥ = λ h. both_ways c.conflict.result c.if-conflict.false (c.conflict.ensures.1 h) in
-    exchange_faithful c.args.order.now c.args.at x y c.index-order-at.is c.index-order-at-2.is (omega arith) free c.swap.new.self c.swap.ensures.by_index.3
+returns-clause-faithful c = exchange_faithful c.args.order.now c.args.at _ _ c.index-order-at.is c.index-order-at-2.is (omega arith) (free c) c.swap.new.self c.swap.ensures.by_index.3
 
 pub returns-then-at-saturating_sub-clause-bound : goal.returns-then-at-saturating_sub-clause-bound
 returns-then-at-saturating_sub-clause-bound c = exchange_breaks
