@@ -6,7 +6,7 @@ use Rattle.records.specs.Instance.{Instance, Recordable}
 use Rattle.trace.proofs.Exact.{size_is, spelled_read}
 use Rattle.trace.specs.Layouts.{Fields, bit, if_set, size_of}
 use Rattle.trace.specs.Spelling.{Hold, Spells}
-use Rattle.trace.specs.Writing.{ReadsBack, Shortest, cell_bytes, is_first, over, shortest, shortest_fields, write_answer, written_to}
+use Rattle.trace.specs.Writing.{ReadsBack, Shortest, cell_bytes, is_first, over, shortest, shortest_fields, spelled, write_answer, written_to}
 use Rattle.trace.specs.declared.fault.WriteFault.TheVariants.{NoRoom}
 
 hold_bytes : (cs : List ℕ) → Hold (cell_bytes cs) cs
@@ -61,13 +61,19 @@ is_shortest i h = (short_spells i h, short_least i h)
 pub reads_back : (i : Instance) → Recordable i → ReadsBack i
 reads_back i h p t = spelled_read (shortest i) t i (short_spells i h) p
 
--- the size of a layout that is the shortest
-pub size_written : (i : Instance) → Recordable i → (y : Fields) (n : ℕ) → n ≡ size_of y → y ≡ shortest_fields i → n ≡ length (shortest i)
-size_written i h y n e is = e ∙ (ap size_of is ∙ sym (short_size i h))
+-- what writing answers and leaves where the bytes have room
+fitting : (s out : List ℕ) (n : ℕ) → n ≡ length s → n ≤ length out → (Ok n ≡ write_answer s out) × (over s out ≡ written_to s out)
+fitting s out n size fits = grind (arith, nat_tests)
 
--- what writing answers and leaves, by the number of bytes
-pub no_room : (s out : List ℕ) (n : ℕ) → n ≡ length s → length out < n → (Err (NoRoom n) ≡ write_answer s out) × (out ≡ written_to s out)
-no_room s out n size few = grind (arith, nat_tests)
+-- what writing answers and leaves, by the size of the layout that is the shortest
+module _ (i : Instance) (h : Recordable i) (out : List ℕ) (y : Fields) (n : ℕ) (e : n ≡ size_of y) (is : y ≡ shortest_fields i) where
+  size_written : n ≡ length (shortest i)
+  size_written = e ∙ (ap size_of is ∙ sym (short_size i h))
 
-pub room : (s out : List ℕ) (n : ℕ) → n ≡ length s → n ≤ length out → (Ok n ≡ write_answer s out) × (over s out ≡ written_to s out)
-room s out n size fits = grind (arith, nat_tests)
+  pub no_room : length out < n → (Err (NoRoom n) ≡ write_answer (shortest i) out) × (out ≡ written_to (shortest i) out)
+  no_room few = grind (arith, nat_tests, size_written)
+
+  pub room : n ≤ length out → (Ok n ≡ write_answer (shortest i) out) × (over (spelled y i) out ≡ written_to (shortest i) out)
+  room fits =
+      let r = fitting (shortest i) out n size_written fits in
+      (r.0, ap (λ (z : Fields). over (spelled z i) out) is ∙ r.1)
