@@ -145,7 +145,7 @@ misfit_first C r rs = step (row_fits C r) (position_or_len (λ q. not (row_fits 
     step false n m = rw (lt-ltb 0 (suc m) (omega arith)) refl
 
 -- where the first row fits and no other is found that does not, none is found
-fit_first : (t : Bool) (o : Option ℕ) → is_some (cond t (option_map suc o) (Some 0)) ≡ false → (t ≡ true) × (is_some o ≡ false)
+pub fit_first : (t : Bool) (o : Option ℕ) → is_some (cond t (option_map suc o) (Some 0)) ≡ false → (t ≡ true) × (is_some o ≡ false)
 fit_first true None e = (refl, refl)
 fit_first true (Some x) e = absurd (true≢false e)
 fit_first false o e = absurd (true≢false e)
