@@ -78,6 +78,7 @@ pub enum TraceFault {
     NoMemory,
 }
 
+// By hand, since contracts name the error that `?` makes of it.
 impl From<ReadFault> for TraceFault {
     ghost from_gives = { λ f r. r ≡ Read f };
 
