@@ -82,9 +82,9 @@ impl<A: Source, B: Source> Source for After<A, B> {
         if !self.fits() {
             return None;
         }
-        // By `?`: as a closure for `map` it was tried, and the proof that the sum fits did not close.
-        let position = self.second.writer(cell, count - writes)?;
-        Some(length + position)
+        self.second
+            .writer(cell, count - writes)
+            .map(|position| length + position)
     }
 
     fn earlier(&self, cell: u16, position: u32) -> u32 {

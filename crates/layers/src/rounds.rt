@@ -85,9 +85,9 @@ impl<S: Source> Source for Rounds<S> {
         if turn >= self.turns() {
             return None;
         }
-        // By `?`: as a closure for `map` it was tried, and the proof that the sum fits did not close.
-        let position = self.below.writer(cell, count % writes)?;
-        Some(turn * length + position)
+        self.below
+            .writer(cell, count % writes)
+            .map(|position| turn * length + position)
     }
 
     fn earlier(&self, cell: u16, position: u32) -> u32 {

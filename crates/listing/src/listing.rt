@@ -51,6 +51,7 @@ impl fmt::Display for Listing<'_> {
                     writeln!(f, "{count}: {record}")?;
                 }
                 Ok(None) => return writeln!(f, "{count} records"),
+                // By its case: a `From` would serve this line alone, and be no plainer.
                 Err(fault) => return writeln!(f, "{}", ListFault::Read(fault)),
             }
         }

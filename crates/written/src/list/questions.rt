@@ -51,7 +51,7 @@ impl Source for WrittenList<'_> {
 
     #[tactic(auto, using(crate::proofs::Rows::row_steps), unfolding(sources::specs::Questions::readers, sources::specs::Numbers::total))]
     fn readers(&self, cell: u16, version: u32) -> u32 {
-        // A loop: a chain would carry `seen` through `scan`, or cut the rows by `split_inclusive` of which little is promised.
+        // A `for` over the rows, and no chain: `scan` would carry `seen` in a closure, and the sum would be the longer line.
         let mut seen = 0;
         let mut readers = 0;
         for row in self.rows {

@@ -1,4 +1,6 @@
-use Rattle.std.proofs.Common.{◌≡◌, ◌-◌, sym, refl, arith}
+use Rattle.std.proofs.Common.{◌≡◌, ◌+◌, ◌-◌, ◌≤◌, ◌∙◌, sym, refl, arith, rules}
+use Rattle.std.specs.Option.{option_map}
+use Rattle.std.proofs.iter.Serving.{serving}
 use Rattle.sources.proofs.Bounds.{writer_few}
 use Rattle.sources.proofs.Joined.{writer_left, writer_right}
 use Rattle.sources.proofs.Writers.{writer_absent}
@@ -19,19 +21,17 @@ returns-then-not-fits g c =
     let m = g.B.Source.list c.self.inside.second in
     rw (← c.self.view_is) (cc (tested l m (rw (← c.self.view_is) at c.if-not-fits.ensures), writer_absent c.args.cell c.args.count l (omega (arith, c.writes-writes.ensures.answer))))
 
-pub returns-in_err-position : goal.returns-in_err-position
-returns-in_err-position g c =
-    let l = g.A.Source.list c.self.inside.first in
+pub map-requires : goal.map-requires
+map-requires g c x e =
     let m = g.B.Source.list c.self.inside.second in
-    rw (← c.self.view_is, tested l m (rw (← c.self.view_is) at c.if-not-fits.ensures), writer_right c.args.cell c.args.count l m (omega (arith, c.writes-writes.ensures.answer)), ← c.writes-writes.ensures.answer, ← c.in_err-position.ensures) (cc)
-
-pub overflow_add-result : goal.overflow_add-result
-overflow_add-result g c =
-    let m = g.B.Source.list c.self.inside.second in
-    omega (arith, (rw (← c.self.view_is) at c.if-not-fits.ensures).0 refl, writer_few c.args.cell (c.args.count - c.writes-writes.result) c.in_ok-position.position m (sym c.in_ok-position.ensures))
+    let few = writer_few c.args.cell (c.args.count - c.writes-writes.result) x m (sym c.writer-2.ensures ∙ e) in
+    let fits = (rw (← c.self.view_is) at c.if-not-fits.ensures).0 refl in
+    let bound : c.length-length.result + x ≤ 65535 = omega (arith, few, fits, c.length-length.ensures) in
+    grind (serving, bound)
 
 pub returns : goal.returns
 returns g c =
     let l = g.A.Source.list c.self.inside.first in
     let m = g.B.Source.list c.self.inside.second in
-    rw (← c.self.view_is, tested l m (rw (← c.self.view_is) at c.if-not-fits.ensures), writer_right c.args.cell c.args.count l m (omega (arith, c.writes-writes.ensures.answer)), ← c.writes-writes.ensures.answer, ← c.in_ok-position.ensures, ← c.length-length.ensures) refl
+    let moved : c.map.result ≡ option_map (λ q. c.length-length.result + q) c.writer-2.result = search rules in
+    rw (← c.self.view_is, tested l m (rw (← c.self.view_is) at c.if-not-fits.ensures), writer_right c.args.cell c.args.count l m (omega (arith, c.writes-writes.ensures.answer)), ← c.writes-writes.ensures.answer, ← c.writer-2.ensures, ← c.length-length.ensures) moved

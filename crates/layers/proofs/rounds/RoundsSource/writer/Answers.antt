@@ -1,4 +1,5 @@
-use Rattle.std.proofs.Common.{◌≡◌, ◌+◌, ◌*◌, length, Some, sym, refl, arith}
+use Rattle.std.proofs.Common.{◌≡◌, ◌+◌, ◌*◌, ◌≤◌, ◌∙◌, ap, length, sym, refl, arith, rules}
+use Rattle.std.proofs.iter.Serving.{serving}
 use Rattle.std.specs.Option.{option_map}
 use Rattle.sources.proofs.Bounds.{writer_few}
 use Rattle.sources.specs.Questions.{writer, writes}
@@ -27,16 +28,14 @@ turned g c =
     let w = c.writes-writes.ensures.answer in
     rw (← c.self.view_is, writer_turn c.args.cell (turns c.self.inside.times (length l)) c.args.count l (omega arith) (rw (← w) (omega (arith, rw (← c.self.view_is) at c.turns.ensures))), ← w, ← c.length-length.ensures, ← c.in_ok-turn.ensures.1, ← c.writer.ensures) refl
 
-pub returns-in_err-position : goal.returns-in_err-position
-returns-in_err-position g c = rw (turned g (goal.at.returns-in_err-position g c).After-writer, c.in_err-position.was) c.from_residual-in_err-position.ensures
-
-found : (g : Over) (c : goal.In_ok-position g) → Some (c.in_ok-turn.turn * c.length-length.result + c.in_ok-position.position) ≡ writer c.args.cell c.args.count (repeated c.args.self.now.1 (g.S.Source.list c.args.self.now.0))
-found g c = rw (turned g (goal.at.returns g c).After-writer, c.in_ok-position.was) refl
-
-pub overflow_add-result : goal.overflow_add-result
-overflow_add-result g c =
+pub map-requires : goal.map-requires
+map-requires g c x e =
     let v = c.args.self.now in
-    omega (arith, (repeated_sound v.1 (g.S.Source.sound v.0)).short, writer_few c.args.cell c.args.count _ (repeated v.1 (g.S.Source.list v.0)) (sym (found g c)))
+    let found = turned g (goal.at.map-requires g c).After-writer ∙ ap (option_map (λ p. c.in_ok-turn.turn * c.length-length.result + p)) e in
+    let bound : c.in_ok-turn.turn * c.length-length.result + x ≤ 65535 = omega (arith, (repeated_sound v.1 (g.S.Source.sound v.0)).short, writer_few c.args.cell c.args.count _ (repeated v.1 (g.S.Source.list v.0)) found) in
+    grind (serving, bound)
 
 pub returns : goal.returns
-returns g c = found g c
+returns g c =
+    let moved : c.map.result ≡ option_map (λ p. c.in_ok-turn.turn * c.length-length.result + p) c.writer.result = search rules in
+    moved ∙ sym (turned g (goal.at.returns g c).After-writer)
