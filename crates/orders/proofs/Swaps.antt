@@ -1,7 +1,8 @@
 -- Deciding whether records conflict, and exchanging two of a slice.
-use Rattle.std.proofs.Common.{◌≡◌, ℕ, zero, suc, ◌+◌, ◌<◌, Bool, List, [], ◌∷◌, ◌++◌, length, get_or, set, Some, Decides, sym, refl, ap, ◌∙◌, subst₂, add-one, arith}
-use Rattle.std.proofs.lemmas.List.{get_or_default}
-use Rattle.std.proofs.lemmas.Option.{slice_get_read}
+use Rattle.std.proofs.Common.{◌≡◌, ℕ, zero, suc, ◌+◌, ◌<◌, Bool, List, [], ◌∷◌, ◌++◌, map, length, get_or, set, Some, Decides, sym, refl, ap, ◌∙◌, subst₂, add-one, arith}
+use Rattle.std.proofs.lemmas.List.{get_or_default, map-append}
+use Rattle.std.proofs.lemmas.Option.{slice_get_read, slice_get-map}
+use Rattle.std.specs.Option.{option_map}
 use Rattle.std.specs.List.{Contains, slice_get}
 use Rattle.records.specs.Instance.{Instance}
 use Rattle.orders.proofs.Cells.{count_behind, counted_has, has_counted}
@@ -25,7 +26,7 @@ split_two (z ∷ xs) (suc k) x y e f =
     let (a, b, was, is) = split_two xs k x y e f in
     (z ∷ a, b, ap (λ u. z ∷ u) was, ap (λ u. z ∷ u) is)
 
-module _ (xs : List Instance) (k : ℕ) (x y : Instance) (first : x ≡ get_or xs k x) (second : y ≡ get_or xs (k + 1) y) (inside : k + 1 < length xs) where
+module _ {X : Type 0} (f : X → Instance) (xs : List X) (k : ℕ) (x y : X) (first : x ≡ get_or xs k x) (second : y ≡ get_or xs (k + 1) y) (inside : k + 1 < length xs) where
   there : slice_get xs k ≡ Some x
   there = slice_get_read xs (length xs) k x refl (omega arith) first
 
@@ -33,20 +34,29 @@ module _ (xs : List Instance) (k : ℕ) (x y : Instance) (first : x ≡ get_or x
   after = ap (slice_get xs) (sym (add-one k)) ∙ slice_get_read xs (length xs) (k + 1) y refl inside second
 
   -- neighbours that do not conflict, and those that do
-  pub free_from : (Conflict x y → ⊥) → FreeAt xs k
-  free_from free = record { first = x; second = y; first_there = there; second_there = after; free = free }
+  pub free_from : (Conflict (f x) (f y) → ⊥) → FreeAt (map f xs) k
+  free_from free = record {
+    first = f x;
+    second = f y;
+    first_there = slice_get-map f xs k ∙ ap (option_map f) there;
+    second_there = slice_get-map f xs (suc k) ∙ ap (option_map f) after;
+    free = free;
+  }
 
-  pub bound_from : Conflict x y → FreeAt xs k → ⊥
+  pub bound_from : Conflict (f x) (f y) → FreeAt (map f xs) k → ⊥
   bound_from conflict h =
-      let p = sym there ∙ h.first_there in
-      let q = sym after ∙ h.second_there in
-      let same : x ≡ h.first = cc in
-      let other : y ≡ h.second = cc in
+      let p = h.first_there in
+      let q = h.second_there in
+      let r = slice_get-map f xs k ∙ ap (option_map f) there in
+      let s = slice_get-map f xs (suc k) ∙ ap (option_map f) after in
+      let same : f x ≡ h.first = cc in
+      let other : f y ≡ h.second = cc in
       h.free (subst₂ Conflict same other conflict)
 
   -- what an exchange leaves is as faithful as what was there
-  pub exchange_faithful : (Conflict x y → ⊥) → (ys : List Instance) → ((d : Instance) → ys ≡ set (set xs k (get_or xs (k + 1) d)) (k + 1) (get_or xs k d)) → (l : List Instance) → Faithful l xs → Faithful l ys
+  pub exchange_faithful : (Conflict (f x) (f y) → ⊥) → (ys : List X) → ((d : X) → ys ≡ set (set xs k (get_or xs (k + 1) d)) (k + 1) (get_or xs k d)) → (l : List Instance) → Faithful l (map f xs) → Faithful l (map f ys)
   exchange_faithful free ys left l h =
       let (a, b, was, is) = split_two xs k x y there after in
       let put : ys ≡ a ++ y ∷ x ∷ b = left x ∙ (ap (λ v. set (set xs k v) (k + 1) (get_or xs k x)) (get_or_default xs (k + 1) x y inside ∙ sym second) ∙ (ap (λ v. set (set xs k y) (k + 1) v) (sym first) ∙ (ap (λ n. set (set xs k y) n x) (add-one k) ∙ is))) in
-      rw put (exchange_keeps x y free l a b (rw was at h))
+      let held : Faithful l (map f a ++ f x ∷ f y ∷ map f b) = rw (was, map-append) at h in
+      rw (put, map-append) (exchange_keeps (f x) (f y) free l (map f a) (map f b) held)

@@ -1,7 +1,8 @@
 //! Neighbours of an order: whether two records conflict, and exchanging two that do not.
-ghost use Rattle.std.specs.Prelude.{◌≡◌, ◌+◌, ◌↔◌, List, Contains, IsTrue, if◌then◌else◌};
+ghost use Rattle.std.specs.Prelude.{◌≡◌, ◌+◌, ◌↔◌, List, map, Contains, IsTrue, if◌then◌else◌};
 ghost use Rattle.std.specs.List.{swap};
 ghost use Rattle.records.specs.Instance.{Instance};
+ghost use Rattle.records.specs.Meaning.{instance};
 ghost use Rattle.orders.specs.Faithful.{Conflict, Faithful, touched};
 ghost use Rattle.orders.specs.Neighbours.{FreeAt};
 ghost use Rattle.orders.specs.Theorems.{ExchangeBreaks, ExchangeKeeps};
@@ -10,14 +11,14 @@ use records::Record;
 
 /// Does a record write or read a cell?
 fn touches(record: &Record, cell: u16) -> bool
-    ensures { IsTrue result ↔ Contains (touched «record».now) cell }
+    ensures { IsTrue result ↔ Contains (touched (instance «record».now)) cell }
 {
     record.written() == cell || record.reads().contains(&cell)
 }
 
 /// Does one of two records write a cell that the other reads or writes? Then an order keeps their sequence.
 pub fn conflict(first: &Record, second: &Record) -> bool
-    ensures { IsTrue result ↔ Conflict first.now second.now }
+    ensures { IsTrue result ↔ Conflict (instance first.now) (instance second.now) }
 {
     touches(second, first.written()) || touches(first, second.written())
 }
@@ -26,9 +27,9 @@ pub fn conflict(first: &Record, second: &Record) -> bool
 /// whether it did. An order that is faithful stays faithful.
 #[tactic(auto, using(crate::proofs::Exchanges::exchange_keeps))]
 pub fn exchange(order: &mut [Record], at: usize) -> bool
-    ensures answer { IsTrue result ↔ FreeAt order.old at }
+    ensures answer { IsTrue result ↔ FreeAt (map instance order.old) at }
     ensures after { order.new ≡ (if result then swap order.old at (at + 1) else order.old) }
-    ensures faithful { (l : List Instance) → Faithful l order.old → Faithful l order.new }
+    ensures faithful { (l : List Instance) → Faithful l (map instance order.old) → Faithful l (map instance order.new) }
     ensures free { (x y : Instance) → ExchangeKeeps x y }
     ensures bound { (x y : Instance) → ExchangeBreaks x y }
 {

@@ -1,6 +1,7 @@
-//! A record: an instance that a trace can hold.
+//! A record: a row that passed its tests.
+ghost use Rattle.std.specs.Prelude.{◌≤◌};
+
 use crate::row::Row;
-use std::marker::Model;
 
 mod equality;
 mod making;
@@ -8,23 +9,10 @@ mod parts;
 mod text;
 
 /// It means an instance, which its contracts speak of. The operator is at most 15, and there are at most five reads.
+// No model: the row is kept whole, also past its reads, so the instance does not tell it; and what holds a record is copied.
 #[derive(Clone, Copy, Debug)]
 pub struct Record {
     row: Row,
-}
-
-impl Model for Record {
-    ghost use Rattle.records.specs.Instance.{Instance};
-
-    ghost Value = { Instance };
-
-    ghost use Rattle.records.specs.Meaning.{IsKept, row_instance, row_of, row_of-row_instance};
-
-    ghost view = { λ r. row_instance r.row };
-
-    ghost invariant = { λ r. IsKept r.row };
-
-    ghost inverse = { λ i. record { row = row_of i } };
-
-    ghost inverse_ok = { λ r kept. λ i. record { row = row_of-row_instance r.row kept i } };
+    ghost operator_fits: { row.operator ≤ 15 },
+    ghost reads_fit: { row.count ≤ 5 },
 }

@@ -1,7 +1,9 @@
 //! What a source means, and the questions that it answers.
 ghost use Rattle.std.specs.Prelude.{◌≡◌, ℕ, List, length};
 ghost use Rattle.std.specs.List.{slice_get};
+ghost use Rattle.std.specs.Option.{option_map};
 ghost use Rattle.records.specs.Instance.{Instance};
+ghost use Rattle.records.specs.Meaning.{instance};
 ghost use Rattle.sources.specs.Questions.{earlier, readers, writer};
 ghost use Rattle.sources.specs.Sound.{Sound};
 
@@ -34,7 +36,7 @@ pub trait Source {
 
     /// The instance at a position, counted from 0, as a record.
     fn record_at(&self, position: u32) -> Option<Record>
-        ensures { result ≡ slice_get (list self.now) position };
+        ensures { option_map instance result ≡ slice_get (list self.now) position };
 
     /// The position of the instance that writes `cell` after exactly `count` earlier ones wrote it.
     fn writer(&self, cell: u16, count: u32) -> Option<u32>

@@ -1,5 +1,6 @@
 mod Bytes
 mod Cells
+mod Found
 mod Exact
 mod Held
 mod Puts

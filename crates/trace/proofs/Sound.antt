@@ -1,5 +1,5 @@
 -- What is read is spelled.
-use Rattle.std.proofs.Common.{◌≡◌, ℕ, zero, suc, ◌+◌, ◌*◌, ◌<◌, ◌≤◌, Bool, false, if◌then◌else◌, List, [], ◌∷◌, ◌++◌, length, get_or, take, drop, Some, None, Ok, Result, sym, refl, ap, ◌∙◌, arith}
+use Rattle.std.proofs.Common.{◌≡◌, ℕ, ◌+◌, ◌*◌, ◌<◌, ◌≤◌, Bool, false, if◌then◌else◌, List, [], ◌∷◌, ◌++◌, length, get_or, take, drop, Some, None, Ok, Result, sym, refl, ap, ◌∙◌, arith}
 use Rattle.std.proofs.lemmas.Option.{same_Some}
 use Rattle.std.proofs.lemmas.List.{length-drop}
 use Rattle.std.proofs.lemmas.Bool.Decides.{nat_tests}
@@ -8,6 +8,7 @@ use Rattle.std.specs.List.{slice_get}
 use Rattle.std.specs.Result.{result_map_both}
 use Rattle.records.specs.Instance.{Instance}
 use Rattle.records.specs.Making.{result_map}
+use Rattle.trace.proofs.Found.{length_cells}
 use Rattle.trace.proofs.Bytes.{Told, byte_from}
 use Rattle.trace.proofs.Held.{held_cells}
 use Rattle.trace.specs.Layouts.{Fields, bit, cells_of, size_of, if_set}
@@ -23,10 +24,6 @@ map_ok f r x e = grind arith
 -- what a record that was found is
 within : (bs : List ℕ) (y : Fields) (i : Instance) → record_at bs y ≡ Ok i → (size_of y ≤ length bs) × (found y bs ≡ i) × ((found y bs).operator ≤ 15)
 within bs y i e = grind (arith, nat_tests)
-
-length_cells : (n : ℕ) (bs : List ℕ) → length (cells_in n bs) ≡ n
-length_cells zero bs = refl
-length_cells (suc n) bs = ap suc (length_cells n (drop 2 bs))
 
 -- the cells that stand are the written cell, where its bit does, and the reads
 rejoined : (w : Bool) (cs : List ℕ) → 0 < length cs → if_set w (get_or cs 0 0) ++ drop (bit w) cs ≡ cs

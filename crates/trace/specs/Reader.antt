@@ -3,6 +3,8 @@ use Rattle.std.specs.Prelude.{◌≡◌, ℕ, ◌+◌, ◌-◌, List, [], ◌++�
 use Rattle.std.specs.Option.{option_map}
 use Rattle.records.specs.Instance.{Instance}
 use Rattle.records.specs.Making.{result_map}
+use Rattle.records.specs.Meaning.{instance}
+use Rattle.records.specs.declared.record.Record.{Record}
 use Rattle.trace.specs.Faults.{place_of}
 use Rattle.trace.specs.Reading.{Piece, read_at}
 use Rattle.trace.specs.Spelling.{Spells}
@@ -26,6 +28,10 @@ left c = drop c.place c.bytes
 -- the bytes of the record that was read last
 abbrev pub spelling : Cursor → List ℕ
 spelling c = take (c.place - c.start) (drop c.start c.bytes)
+
+-- an answer by what its record means
+abbrev pub told : Result (Option Record) ReadFault → Result (Option Instance) ReadFault
+told r = result_map (option_map instance) r
 
 -- a step passes the record that it found, and else goes nowhere
 abbrev pub stepped : Cursor → Result (Option Piece) ReadFault → Cursor

@@ -3,10 +3,12 @@ use Rattle.std.specs.Prelude.{ℕ, zero, suc, ◌+◌, ◌*◌, ◌/◌, ◌%◌
 use Rattle.std.specs.Result.{result_map_both}
 use Rattle.records.specs.Instance.{Instance}
 use Rattle.records.specs.Making.{result_map}
+use Rattle.records.specs.Meaning.{instance}
 use Rattle.trace.specs.Layouts.{Fields, bit, cells_of, size_of}
 use Rattle.trace.specs.declared.fault.ReadCause.{ReadCause}
 use Rattle.trace.specs.declared.fault.ReadCause.TheVariants.{HighBit, Gap, NoCell, PastEnd, Operator}
 use Rattle.trace.specs.declared.fault.ReadFault.{ReadFault}
+use Rattle.trace.specs.declared.reading.Front.{Front}
 
 -- the rest of a computation, where its first part did not fail
 abbrev pub and_then : {A B E : Type 0} → Result A E → (A → Result B E) → Result B E
@@ -63,6 +65,10 @@ record_at bs y =
 pub record Piece : Type 0 where
   pub meaning : Instance
   pub size : ℕ
+
+-- the same of a record in memory
+abbrev pub piece : Front → Piece
+piece x = record { meaning = instance x.found; size = x.size }
 
 -- the record at the front of bytes that lie at place p of the trace, and its size, or none where no bytes are left
 abbrev pub read_at : ℕ → List ℕ → Result (Option Piece) ReadFault

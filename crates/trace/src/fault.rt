@@ -4,6 +4,7 @@ ghost use Rattle.trace.specs.Faults.{number_of, place_of, write_number_of};
 ghost use Rattle.trace.specs.declared.fault.TraceFault.TheVariants.{Read, NoMemory};
 
 use std::alloc::{AllocError, AllocFailed};
+use std::fmt;
 
 /// Why bytes form no record.
 #[derive(Clone, Copy, Debug, PartialEq, Eq)]
@@ -21,10 +22,25 @@ pub enum ReadCause {
 }
 
 /// Bytes that form no record: why, and the place of the map byte.
-#[derive(Clone, Copy, Debug, PartialEq, Eq)]
+#[derive(Clone, Copy, PartialEq, Eq)]
 pub struct ReadFault {
     pub cause: ReadCause,
     pub place: usize,
+}
+
+/// The cause with its place, as `Gap { place: 3 }`.
+// By hand, so that the text stays what it was: a derived one would name the struct and both fields.
+impl fmt::Debug for ReadFault {
+    fn fmt<W: fmt::Write>(&self, f: &mut fmt::Formatter<W>) -> fmt::Result {
+        let cause = match self.cause {
+            ReadCause::HighBit => "HighBit",
+            ReadCause::Gap => "Gap",
+            ReadCause::NoCell => "NoCell",
+            ReadCause::PastEnd => "PastEnd",
+            ReadCause::Operator => "Operator",
+        };
+        f.debug_struct(cause).field("place", &self.place).finish()
+    }
 }
 
 impl ReadFault {

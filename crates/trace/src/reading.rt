@@ -1,31 +1,20 @@
 //! Reading the record at the front of some bytes.
 ghost use Rattle.std.specs.Prelude.{◌≡◌, ◌+◌, ◌*◌, ◌≤◌, length, take};
+ghost use Rattle.std.specs.Option.{option_map};
+ghost use Rattle.records.specs.Making.{result_map};
+ghost use Rattle.records.specs.Meaning.{instance};
 ghost use Rattle.trace.specs.Layouts.{bit, cells_of, size_of};
-ghost use Rattle.trace.specs.Reading.{cell_in, cells_in, layout_at, read_at, record_at};
+ghost use Rattle.trace.specs.Reading.{cell_in, cells_in, layout_at, piece, read_at, record_at};
 
 use crate::fault::{ReadCause, ReadFault};
 use crate::layout::Layout;
-use records::{MOST_READS, Record};
-use std::marker::Model;
-
-/// The most cells that a record has: the written one, and its reads.
-const MOST_RECORD_CELLS: usize = 1 + MOST_READS;
+use records::{MOST_READS, Record, Row};
 
 /// The record at the front of some bytes, and how many of them it takes.
 #[derive(Clone, Copy)]
 pub(crate) struct Front {
     pub(crate) found: Record,
     pub(crate) size: usize,
-}
-
-impl Model for Front {
-    ghost use Rattle.trace.specs.Reading.{Piece};
-
-    ghost Value = { Piece };
-
-    ghost view = { λ x. record { meaning = x.found; size = x.size } };
-
-    ghost inverse = { λ x. record { found = x.meaning; size = x.size } };
 }
 
 /// The layout that a map byte tells.
@@ -88,17 +77,24 @@ impl Layout {
 
     /// The record of this layout at the front of `bytes`.
     pub(crate) fn record(&self, bytes: &[u8]) -> Result<Record, ReadCause>
-        ensures { result ≡ record_at bytes.now self.now }
+        ensures { result_map instance result ≡ record_at bytes.now self.now }
     {
         if bytes.len() < self.size() {
             return Err(ReadCause::PastEnd);
         }
         let operator = if self.operator { bytes[1] } else { 0 };
-        let mut cells = [0; MOST_RECORD_CELLS];
-        let cells = &mut cells[..self.cells()];
-        read_cells(&bytes[self.first_cell()..], cells);
-        let reads = &cells[usize::from(self.written)..];
-        Record::new(operator, cells[0], reads).map_err(|_| ReadCause::Operator)
+        let first = self.first_cell();
+        let written = read_cell(&bytes[first..]);
+        let second = first + 2 * usize::from(self.written);
+        let mut reads = [0; MOST_READS];
+        read_cells(&bytes[second..], &mut reads[..self.reads]);
+        let row = Row {
+            operator,
+            written,
+            count: self.reads as u8,
+            reads,
+        };
+        Record::try_from(row).map_err(|_| ReadCause::Operator)
     }
 }
 
@@ -123,7 +119,7 @@ fn read_cells(bytes: &[u8], cells: &mut [u16])
 
 /// The record at the front of `rest`, which lies at `place` in the trace; none where nothing is left.
 pub(crate) fn read_front(rest: &[u8], place: usize) -> Result<Option<Front>, ReadFault>
-    ensures { result ≡ read_at place rest.now }
+    ensures { result_map (option_map piece) result ≡ read_at place rest.now }
 {
     let Some(byte) = rest.first() else {
         return Ok(None);

@@ -1,6 +1,7 @@
 //! Writing a record as bytes.
 ghost use Rattle.std.specs.Prelude.{◌≡◌, ◌*◌, ◌≤◌, length};
 ghost use Rattle.records.specs.Instance.{Recordable};
+ghost use Rattle.records.specs.Meaning.{instance};
 ghost use Rattle.trace.specs.Layouts.{byte_of, size_of};
 ghost use Rattle.trace.specs.Writing.{shortest_fields, shortest, cell_bytes, over, spelled, written_to, write_answer, Shortest, ReadsBack};
 
@@ -11,10 +12,10 @@ use records::Record;
 /// Writes the shortest spelling of a record at the front of `out`, and answers its length. Later bytes stay.
 /// Where there is no room for it, no byte is changed.
 pub fn write_record(record: &Record, out: &mut [u8]) -> Result<usize, WriteFault>
-    ensures answer { result ≡ write_answer (shortest «record».now) out.old }
-    ensures after { out.new ≡ written_to (shortest «record».now) out.old }
-    ensures shortest { Shortest «record».now }
-    ensures reads_back { ReadsBack «record».now }
+    ensures answer { result ≡ write_answer (shortest (instance «record».now)) out.old }
+    ensures after { out.new ≡ written_to (shortest (instance «record».now)) out.old }
+    ensures shortest { Shortest (instance «record».now) }
+    ensures reads_back { ReadsBack (instance «record».now) }
 {
     let layout = Layout::shortest(record);
     let size = layout.size();
@@ -28,8 +29,8 @@ pub fn write_record(record: &Record, out: &mut [u8]) -> Result<usize, WriteFault
 impl Layout {
     /// The layout of a record's shortest spelling.
     pub(crate) fn shortest(record: &Record) -> Layout
-        ensures layout { result ≡ shortest_fields «record».now }
-        ensures recordable { Recordable «record».now }
+        ensures layout { result ≡ shortest_fields (instance «record».now) }
+        ensures recordable { Recordable (instance «record».now) }
     {
         let operator = record.operator() != 0;
         let written = record.reads().first() != Some(&record.written());
@@ -42,9 +43,9 @@ impl Layout {
 
     /// Writes a record of so many reads, in this layout, at the front of `out`.
     fn write(&self, record: &Record, out: &mut [u8])
-        requires reads { self.now.reads ≡ length «record».now.reads }
+        requires reads { self.now.reads ≡ length (instance «record».now).reads }
         requires room { size_of self.now ≤ length out.old }
-        ensures { out.new ≡ over (spelled self.now «record».now) out.old }
+        ensures { out.new ≡ over (spelled self.now (instance «record».now)) out.old }
     {
         out[0] = u8::from(*self);
         if self.operator {

@@ -166,6 +166,8 @@ fn rows(rt: HostRuntime) -> Result<(), Fail> {
         reads: [9, 7, 7, 7, 7],
     };
     assert_eq!(rt; Record::try_from(row)?, record);
+    // What stands past the reads comes back too.
+    assert_eq!(rt; Row::from(Record::try_from(row)?).reads, row.reads);
     let other = Row {
         operator: 3,
         written: 1,
@@ -182,5 +184,29 @@ fn rows(rt: HostRuntime) -> Result<(), Fail> {
         });
         assert_eq!(rt; answer.map_err(|fault| fault.number()), Err(number));
     }
+    Ok(())
+}
+
+/// The operator of a record that stands with a number.
+fn operator_of(entry: (Record, u32)) -> u8 {
+    entry.0.operator()
+}
+
+#[test]
+fn what_holds_a_record_is_copied(rt: HostRuntime) -> Result<(), Fail> {
+    let record = Record::new(3, 1, &[9])?;
+    let entry = (record, 7);
+    assert_eq!(rt; operator_of(entry), operator_of(entry));
+    let order = [record; 3];
+    assert_eq!(rt; order[1], order[2]);
+    Ok(())
+}
+
+#[test]
+fn a_refusal_as_debug_text(rt: HostRuntime) -> Result<(), Fail> {
+    // The read bits have a gap.
+    let answer = TraceReader::new(&[0x16]).next_record();
+    let text = format!(in rt.alloc(); "{answer:?}")?;
+    assert_eq!(rt; text.as_str(), "Err(Gap { place: 0 })");
     Ok(())
 }

@@ -1,12 +1,13 @@
 //! The text of a record, as `op 1, 5 <- 2 4`.
 ghost use Rattle.std.specs.Prelude.{Some};
+ghost use Rattle.records.specs.Meaning.{instance};
 ghost use Rattle.records.specs.Text.{cells_text, text};
 
 use crate::record::Record;
 use std::fmt;
 
 impl fmt::Display for Record {
-    ghost output = { λ x. Some (text x) };
+    ghost output = { λ x. Some (text (instance x)) };
 
     fn fmt<W: fmt::Write>(&self, f: &mut fmt::Formatter<W>) -> fmt::Result {
         let operator = self.operator();

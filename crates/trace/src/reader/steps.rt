@@ -1,6 +1,6 @@
 //! A trace, read record by record.
 ghost use Rattle.std.specs.Prelude.{◌≡◌};
-ghost use Rattle.trace.specs.Reader.{cursor, after, next, Finds};
+ghost use Rattle.trace.specs.Reader.{cursor, after, next, told, Finds};
 ghost use Rattle.trace.specs.Spelling.{Unambiguous};
 
 use crate::fault::ReadFault;
@@ -11,9 +11,9 @@ use records::Record;
 impl TraceReader<'_> {
     /// The record at the place, which it passes, or none at the end. A refusal leaves the place.
     pub fn next_record(&mut self) -> Result<Option<Record>, ReadFault>
-        ensures answer { result ≡ next (cursor self.old) }
+        ensures answer { told result ≡ next (cursor self.old) }
         ensures after { cursor self.new ≡ after (cursor self.old) }
-        ensures finds { Finds (cursor self.old) result (cursor self.new) }
+        ensures finds { Finds (cursor self.old) (told result) (cursor self.new) }
         ensures unambiguous { Unambiguous }
     {
         let place = self.place;

@@ -1,5 +1,6 @@
 use Rattle.std.proofs.Common.{◌+◌, ◌++◌, refl, ◌∙◌, arith}
 use Rattle.std.proofs.Output.{has_written_of_eq, has_written_append}
+use Rattle.records.specs.Meaning.{instance}
 use Rattle.trace.proofs.Walks.{rest_of, same_bytes, stepped_on}
 use Rattle.trace.specs.Reader.{cursor}
 use Rattle.listing.proofs.Texts.{told_more, told_to_the_end}
@@ -24,7 +25,7 @@ pub loop-record-preserved : goal.loop-record-preserved
 loop-record-preserved g c =
     let at = cursor c.loop-record.reader in
     let to = cursor c.next_record.new.self in
-    let new = c.in-Ok-Some.«record» in
+    let new = instance c.in-Ok-Some.«record» in
     let go = stepped_on at to _ (rw c.in-Ok-Some.field-0-is at c.in-Ok-Some.ensures.answer) c.next_record.ensures.after in (
       same_bytes at to c.next_record.ensures.after ∙ c.loop-record.invariant.0,
       omega (arith, go.1, c.loop-record.invariant.1),

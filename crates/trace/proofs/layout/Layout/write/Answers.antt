@@ -1,5 +1,6 @@
 use Rattle.std.proofs.Common.{◌≡◌, ℕ, ◌+◌, ◌*◌, List, [], ◌∷◌, ◌++◌, length, set, sym, ap, ◌∙◌, append_assoc, arith, length-append, rules}
 use Rattle.records.specs.Instance.{Instance}
+use Rattle.records.specs.Meaning.{instance}
 use Rattle.trace.proofs.Puts.{byte_put, cell_bytes_append, length_front, length_written, no_operator, no_written, operator_put, put, put_more, put_rest, written_put}
 use Rattle.trace.specs.Layouts.{Fields, bit, byte_of, if_set}
 use Rattle.trace.specs.Writing.{cell_bytes, over}
@@ -9,7 +10,7 @@ use Rattle.trace.proofs.layout.Layout.write.Goals as goal
 pub returns : goal.returns
 returns c =
     let y : Fields = c.args.self.now in
-    let i : Instance = c.args.«record».now in
+    let i : Instance = instance c.args.«record».now in
     let out : List ℕ = c.args.out.now in
     let has_operator : y.operator ≡ c.self.inside.operator = sym (ap (λ (f : Fields). f.operator) c.self.view_is) in
     let has_written : y.written ≡ c.self-2.inside.written = sym (ap (λ (f : Fields). f.written) c.self-2.view_is) in

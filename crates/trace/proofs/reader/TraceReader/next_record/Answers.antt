@@ -1,9 +1,9 @@
-use Rattle.std.proofs.Common.{Some, Ok, Err, ap, ◌∙◌}
+use Rattle.std.proofs.Common.{Some, Ok, Err}
 use Rattle.std.proofs.lemmas.Result.{err_from_is_err_and}
 use Rattle.trace.proofs.Exact.{unambiguous}
 use Rattle.trace.proofs.Steps.{step_finds}
 use Rattle.trace.specs.Reader.{cursor}
-use Rattle.trace.specs.Reading.{Piece}
+use Rattle.trace.specs.Reading.{piece}
 use Rattle.trace.proofs.reader.TraceReader.next_record.Goals as goal
 
 pub returns-in_err-front-clause-finds : goal.returns-in_err-front-clause-finds
@@ -19,8 +19,7 @@ returns-in_default-clause-unambiguous c = unambiguous
 
 pub returns-clause-finds : goal.returns-clause-finds
 returns-clause-finds c =
-    let piece : Piece = record { meaning = c.front.inside.found; size = c.front.inside.size } in
-    step_finds (cursor c.args.self.now) (Ok (Some piece)) (ap (λ (x : Piece). Ok (Some x)) c.front.view_is ∙ (rw c.in-Some.is at c.in_ok-front.ensures))
+    step_finds (cursor c.args.self.now) (Ok (Some (piece c.in-Some.front))) (rw c.in-Some.is at c.in_ok-front.ensures)
 
 pub returns-clause-unambiguous : goal.returns-clause-unambiguous
 returns-clause-unambiguous c = unambiguous
