@@ -5,28 +5,19 @@ ghost use Rattle.layers.specs.Sound.{joined_sound};
 
 use records::Record;
 use sources::{Counts, MOST_INSTANCES, Source};
-use std::marker::Model;
 
 /// The first list, then the second; the first alone, where both together exceed 65,535 instances.
+// No model: with one, a layer over a source that borrows could not be copied.
 #[derive(Clone, Copy)]
 pub struct After<A, B> {
     first: A,
     second: B,
 }
 
-/// Contracts see the pair of the two sources.
-impl<A, B> Model for After<A, B> {
-    ghost Value = { A × B };
-
-    ghost view = { λ x. (x.first, x.second) };
-
-    ghost inverse = { λ v. record { first = v.0; second = v.1 } };
-}
-
 impl<A, B> After<A, B> {
     /// Puts the list of `second` after that of `first`.
     pub fn new(first: A, second: B) -> After<A, B>
-        ensures { result ≡ (first, second) }
+        ensures { result ≡ record { first = first; second = second } }
     {
         After { first, second }
     }
@@ -36,7 +27,7 @@ impl<A: Source, B: Source> After<A, B> {
     /// Do both lists fit, one after the other?
     fn fits(&self) -> bool
         ensures { IsTrue result
-            ↔ (length (A.Source.list self.now.0) + length (B.Source.list self.now.1) ≤ 65535) }
+            ↔ (length (A.Source.list self.now.first) + length (B.Source.list self.now.second) ≤ 65535) }
     {
         self.first.length() + self.second.length() <= MOST_INSTANCES
     }
@@ -44,11 +35,11 @@ impl<A: Source, B: Source> After<A, B> {
 
 /// Every answer is one of the first source, of the second with a shifted number, or the sum of two.
 impl<A: Source, B: Source> Source for After<A, B> {
-    ghost size = { λ x. max (A.Source.size x.0) (B.Source.size x.1) };
+    ghost size = { λ x. max (A.Source.size x.first) (B.Source.size x.second) };
 
-    ghost list = { λ x. joined (A.Source.list x.0) (B.Source.list x.1) };
+    ghost list = { λ x. joined (A.Source.list x.first) (B.Source.list x.second) };
 
-    ghost sound = { λ x. joined_sound (A.Source.sound x.0) (B.Source.sound x.1) };
+    ghost sound = { λ x. joined_sound (A.Source.sound x.first) (B.Source.sound x.second) };
 
     fn cells(&self) -> u16 {
         self.first.cells().max(self.second.cells())

@@ -1,32 +1,23 @@
 //! Rounds: a source's list, several times over.
-ghost use Rattle.std.specs.Prelude.{◌≡◌, ℕ, length};
+ghost use Rattle.std.specs.Prelude.{◌≡◌, length};
 ghost use Rattle.layers.specs.Lists.{in_turn, repeated, turns};
 ghost use Rattle.layers.specs.Sound.{repeated_sound};
 
 use records::Record;
 use sources::{Counts, MOST_INSTANCES, Source};
-use std::marker::Model;
 
 /// The list below, `times` times over, or as often as it goes into 65,535 instances.
+// No model: with one, a layer over a source that borrows could not be copied.
 #[derive(Clone, Copy)]
 pub struct Rounds<S> {
     below: S,
     times: u16,
 }
 
-/// Contracts see the source below and the times.
-impl<S> Model for Rounds<S> {
-    ghost Value = { S × ℕ };
-
-    ghost view = { λ x. (x.below, x.times) };
-
-    ghost inverse = { λ v. record { below = v.0; times = v.1 } };
-}
-
 impl<S> Rounds<S> {
     /// Repeats the list of `below`.
     pub fn new(below: S, times: u16) -> Rounds<S>
-        ensures { result ≡ (below, times) }
+        ensures { result ≡ record { below = below; times = times } }
     {
         Rounds { below, times }
     }
@@ -35,7 +26,7 @@ impl<S> Rounds<S> {
 impl<S: Source> Rounds<S> {
     /// How often the list below is repeated; an empty list is not.
     fn turns(&self) -> u32
-        ensures { result ≡ turns self.now.1 (length (S.Source.list self.now.0)) }
+        ensures { result ≡ turns self.now.times (length (S.Source.list self.now.below)) }
     {
         MOST_INSTANCES
             .checked_div(self.below.length())
@@ -45,8 +36,8 @@ impl<S: Source> Rounds<S> {
     /// The readers of `cell` at this version of the list below, in one turn; none where there is no such turn.
     fn readers_in(&self, turn: u32, cell: u16, version: u32) -> u32
         ensures { result
-            ≡ in_turn (turns self.now.1 (length (S.Source.list self.now.0))) turn
-            cell version (S.Source.list self.now.0) }
+            ≡ in_turn (turns self.now.times (length (S.Source.list self.now.below))) turn
+            cell version (S.Source.list self.now.below) }
     {
         if turn >= self.turns() {
             return 0;
@@ -57,11 +48,11 @@ impl<S: Source> Rounds<S> {
 
 /// Every answer comes by arithmetic from a few answers below.
 impl<S: Source> Source for Rounds<S> {
-    ghost size = { λ x. S.Source.size x.0 };
+    ghost size = { λ x. S.Source.size x.below };
 
-    ghost list = { λ x. repeated x.1 (S.Source.list x.0) };
+    ghost list = { λ x. repeated x.times (S.Source.list x.below) };
 
-    ghost sound = { λ x. repeated_sound x.1 (S.Source.sound x.0) };
+    ghost sound = { λ x. repeated_sound x.times (S.Source.sound x.below) };
 
     fn cells(&self) -> u16 {
         self.below.cells()

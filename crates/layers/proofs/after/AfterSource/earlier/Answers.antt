@@ -9,22 +9,22 @@ use Rattle.layers.proofs.after.AfterSource.earlier.Goals.{then-position-length-v
 
 pub returns-then-position-length : goal.returns-then-position-length
 returns-then-position-length g c =
-    let l = g.A.Source.list c.self.inside.first in
-    let m = g.B.Source.list c.self.inside.second in
+    let l = g.A.Source.list c.args.self.now.first in
+    let m = g.B.Source.list c.args.self.now.second in
     let p = c.args.position in
     elim c.then-position-length.branch [
-      | then-position-length-via-then-position-length w ↦ rw (← c.self.view_is) (cc (either (λ j. earlier c.args.cell p j ≡ earlier c.args.cell p l) l m (earlier_left c.args.cell p l m (omega arith)) refl))
-      | then-position-length-via-else-position-length+then-not-fits w ↦ rw (← c.self.view_is) (cc (tested l m (rw (← c.self.view_is) at w.if-not-fits.ensures)))
+      | then-position-length-via-then-position-length w ↦ cc (either (λ j. earlier c.args.cell p j ≡ earlier c.args.cell p l) l m (earlier_left c.args.cell p l m (omega arith)) refl)
+      | then-position-length-via-else-position-length+then-not-fits w ↦ cc (tested l m w.if-not-fits.ensures)
     ]
 
 pub overflow_add-result : goal.overflow_add-result
 overflow_add-result g c =
-    let l = g.A.Source.list c.self.inside.first in
-    let m = g.B.Source.list c.self.inside.second in
-    omega (arith, (rw (← c.self.view_is) at c.if-not-fits.ensures).0 refl, earlier_few c.args.cell c.args.position l, earlier_few c.args.cell (c.args.position - c.length-length.result) m)
+    let l = g.A.Source.list c.args.self.now.first in
+    let m = g.B.Source.list c.args.self.now.second in
+    omega (arith, c.if-not-fits.ensures.0 refl, earlier_few c.args.cell c.args.position l, earlier_few c.args.cell (c.args.position - c.length-length.result) m)
 
 pub returns : goal.returns
 returns g c =
-    let l = g.A.Source.list c.self.inside.first in
-    let m = g.B.Source.list c.self.inside.second in
-    rw (← c.self.view_is) (cc (tested l m (rw (← c.self.view_is) at c.if-not-fits.ensures), earlier_after c.args.cell c.args.position l m (omega arith), earlier_past c.args.cell c.args.position l (omega arith)))
+    let l = g.A.Source.list c.args.self.now.first in
+    let m = g.B.Source.list c.args.self.now.second in
+    cc (tested l m c.if-not-fits.ensures, earlier_after c.args.cell c.args.position l m (omega arith), earlier_past c.args.cell c.args.position l (omega arith))

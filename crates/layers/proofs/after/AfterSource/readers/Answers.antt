@@ -8,22 +8,22 @@ use Rattle.layers.proofs.after.AfterSource.readers.Goals.{then-version-writes-vi
 
 pub returns-then-version-writes : goal.returns-then-version-writes
 returns-then-version-writes g c =
-    let l = g.A.Source.list c.self.inside.first in
-    let m = g.B.Source.list c.self.inside.second in
+    let l = g.A.Source.list c.args.self.now.first in
+    let m = g.B.Source.list c.args.self.now.second in
     let v = c.args.version in
     elim c.then-version-writes.branch [
-      | then-version-writes-via-then-version-writes w ↦ rw (← c.self.view_is) (cc (either (λ j. readers c.args.cell v j ≡ readers c.args.cell v l) l m (readers_left c.args.cell v l m (omega (arith, c.writes-writes.ensures.answer))) refl))
-      | then-version-writes-via-else-version-writes+then-not-fits w ↦ rw (← c.self.view_is) (cc (tested l m (rw (← c.self.view_is) at w.if-not-fits.ensures)))
+      | then-version-writes-via-then-version-writes w ↦ cc (either (λ j. readers c.args.cell v j ≡ readers c.args.cell v l) l m (readers_left c.args.cell v l m (omega (arith, c.writes-writes.ensures.answer))) refl)
+      | then-version-writes-via-else-version-writes+then-not-fits w ↦ cc (tested l m w.if-not-fits.ensures)
     ]
 
 pub overflow_add-result : goal.overflow_add-result
 overflow_add-result g c =
-    let a = c.self.inside.first in
-    let b = c.self.inside.second in
+    let a = c.args.self.now.first in
+    let b = c.args.self.now.second in
     omega (arith, readers_few c.args.cell c.args.version _ _ (g.A.Source.sound a), readers_few c.args.cell (c.args.version - c.writes-writes.result) _ _ (g.B.Source.sound b))
 
 pub returns : goal.returns
 returns g c =
-    let l = g.A.Source.list c.self.inside.first in
-    let m = g.B.Source.list c.self.inside.second in
-    rw (← c.self.view_is) (cc (tested l m (rw (← c.self.view_is) at c.if-not-fits.ensures), readers_right c.args.cell c.args.version l m (omega (arith, c.writes-writes.ensures.answer))))
+    let l = g.A.Source.list c.args.self.now.first in
+    let m = g.B.Source.list c.args.self.now.second in
+    cc (tested l m c.if-not-fits.ensures, readers_right c.args.cell c.args.version l m (omega (arith, c.writes-writes.ensures.answer)))

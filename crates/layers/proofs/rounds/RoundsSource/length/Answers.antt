@@ -5,5 +5,5 @@ use Rattle.layers.proofs.rounds.RoundsSource.length.Goals as goal
 
 pub returns : goal.returns
 returns g c =
-    let l = g.S.Source.list c.self.inside.below in
-    rw (← c.self.view_is) (cc (length_copies (turns c.self.inside.times (length l)) l))
+    let l = g.S.Source.list c.args.self.now.below in
+    cc (length_copies (turns c.args.self.now.times (length l)) l)

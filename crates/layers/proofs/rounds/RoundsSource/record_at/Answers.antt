@@ -6,15 +6,13 @@ use Rattle.layers.proofs.rounds.RoundsSource.record_at.Goals as goal
 
 pub nonzero_rem-position : goal.nonzero_rem-position
 nonzero_rem-position g c =
-    let l = g.S.Source.list c.self.inside.below in
-    let all = rw (← c.self.view_is) at c.length.ensures in
+    let l = g.S.Source.list c.args.self.now.below in
     elim (cases_lt 0 c.length-2.result) [
       | inl some ↦ some
-      | inr none ↦ absurd (omega (arith, none_below (turns c.self.inside.times (length l)) l (omega arith)))
+      | inr none ↦ absurd (omega (arith, none_below (turns c.args.self.now.times (length l)) l (omega arith)))
     ]
 
 pub returns : goal.returns
 returns g c =
-    let l = g.S.Source.list c.self.inside.below in
-    let all = rw (← c.self.view_is) at c.length.ensures in
-    rw (← c.self.view_is) (cc (nth_turn (turns c.self.inside.times (length l)) c.args.position l (omega arith)))
+    let l = g.S.Source.list c.args.self.now.below in
+    cc (nth_turn (turns c.args.self.now.times (length l)) c.args.position l (omega arith))

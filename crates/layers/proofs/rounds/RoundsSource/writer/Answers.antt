@@ -12,27 +12,27 @@ use Rattle.layers.proofs.rounds.RoundsSource.writer.Goals as goal
 
 pub returns-in_err-turn : goal.returns-in_err-turn
 returns-in_err-turn g c =
-    let l = g.S.Source.list c.self.inside.below in
+    let l = g.S.Source.list c.args.self.now.below in
     let none : writes c.args.cell l ≡ 0 = omega (arith, c.in_err-turn.ensures) in
-    rw (← c.self.view_is) (cc (writer_unwritten c.args.cell (turns c.self.inside.times (length l)) c.args.count l none))
+    cc (writer_unwritten c.args.cell (turns c.args.self.now.times (length l)) c.args.count l none)
 
 pub returns-then-turn-turns : goal.returns-then-turn-turns
 returns-then-turn-turns g c =
-    let l = g.S.Source.list c.self.inside.below in
-    rw (← c.self.view_is) (sym (writer_beyond c.args.cell (turns c.self.inside.times (length l)) c.args.count l (rw (← c.writes-writes.ensures.answer) (omega (arith, rw (← c.self.view_is) at c.turns.ensures)))))
+    let l = g.S.Source.list c.args.self.now.below in
+    sym (writer_beyond c.args.cell (turns c.args.self.now.times (length l)) c.args.count l (rw (← c.writes-writes.ensures.answer) (omega arith)))
 
 -- the answer below, moved by whole turns
-turned : (g : Over) (c : After-writer g) → writer c.args.cell c.args.count (repeated c.args.self.now.1 (g.S.Source.list c.args.self.now.0)) ≡ option_map (λ p. c.in_ok-turn.turn * c.length-length.result + p) c.writer.result
+turned : (g : Over) (c : After-writer g) → writer c.args.cell c.args.count (repeated c.args.self.now.times (g.S.Source.list c.args.self.now.below)) ≡ option_map (λ p. c.in_ok-turn.turn * c.length-length.result + p) c.writer.result
 turned g c =
-    let l = g.S.Source.list c.self.inside.below in
+    let l = g.S.Source.list c.args.self.now.below in
     let w = c.writes-writes.ensures.answer in
-    rw (← c.self.view_is, writer_turn c.args.cell (turns c.self.inside.times (length l)) c.args.count l (omega arith) (rw (← w) (omega (arith, rw (← c.self.view_is) at c.turns.ensures))), ← w, ← c.length-length.ensures, ← c.in_ok-turn.ensures.1, ← c.writer.ensures) refl
+    rw (writer_turn c.args.cell (turns c.args.self.now.times (length l)) c.args.count l (omega arith) (rw (← w) (omega arith)), ← w, ← c.length-length.ensures, ← c.in_ok-turn.ensures.1, ← c.writer.ensures) refl
 
 pub map-requires : goal.map-requires
 map-requires g c x e =
     let v = c.args.self.now in
     let found = turned g (goal.at.map-requires g c).After-writer ∙ ap (option_map (λ p. c.in_ok-turn.turn * c.length-length.result + p)) e in
-    let bound : c.in_ok-turn.turn * c.length-length.result + x ≤ 65535 = omega (arith, (repeated_sound v.1 (g.S.Source.sound v.0)).short, writer_few c.args.cell c.args.count _ (repeated v.1 (g.S.Source.list v.0)) found) in
+    let bound : c.in_ok-turn.turn * c.length-length.result + x ≤ 65535 = omega (arith, (repeated_sound v.times (g.S.Source.sound v.below)).short, writer_few c.args.cell c.args.count _ (repeated v.times (g.S.Source.list v.below)) found) in
     grind (serving, bound)
 
 pub returns : goal.returns
