@@ -1,15 +1,15 @@
 -- Steps over the rows of a written list.
-use Rattle.std.proofs.Common.{count_by, filter, Bor, is_some, true≢false, ◌≡◌, ℕ, zero, suc, ◌+◌, ◌<◌, ◌≤◌, min, Bool, true, false, cond, not, eqb, ltb, List, [], ◌∷◌, map, length, get_or, take, Some, None, Ok, Err, Option, Result, unwrap_or, sym, refl, ap, ◌∙◌, inl, inr, add-zero, add-one, arith}
+use Rattle.std.proofs.Common.{count_by, is_some, true≢false, ◌≡◌, ℕ, zero, suc, ◌+◌, ◌-◌, ◌<◌, ◌≤◌, min, Bool, true, false, cond, if◌then◌else◌, not, ◌&&◌, eqb, ltb, List, [], ◌∷◌, map, length, get_or, take, Some, None, Ok, Err, Option, Result, unwrap_or, sym, refl, ap, ◌∙◌, inl, inr, add-zero, add-one, arith}
 use Rattle.std.proofs.lemmas.List.{length-map}
 use Rattle.std.proofs.lemmas.List.{length-take-le, take_all, take-map}
-use Rattle.std.proofs.lemmas.Option.{none-some, slice_get-get_or, slice_get-map}
-use Rattle.std.proofs.lemmas.Bool.{cases_lt, eq-eqb, le-ltb, lt-ltb, ltb-false, ltb-true, ne_eqb, not-false}
-use Rattle.std.specs.Option.{option_map}
+use Rattle.std.proofs.lemmas.Option.{slice_get-get_or, slice_get-map}
+use Rattle.std.proofs.lemmas.Bool.{and_parts, cases_lt, eq-eqb, eqb-true, le-ltb, lt-ltb, ltb-false, ltb-true, ne_eqb, not-false}
+use Rattle.std.specs.Option.{MatchOption, option_map}
 use Rattle.std.proofs.lemmas.List.Elements.{All-cons, All-nil}
 use Rattle.std.proofs.lemmas.List.Quantifiers.{position-Some}
-use Rattle.std.proofs.lemmas.List.Sums.{count_by_more_no, count_by_more_yes, fails_before_first, length-filter, sum_by-cons}
+use Rattle.std.proofs.lemmas.List.Sums.{count_by_more_no, count_by_more_yes, fails_before_first, length-filter, sum_by-cons, sum_by_more}
 use Rattle.std.proofs.lemmas.List.Filters.{length-filter_more}
-use Rattle.std.specs.List.{All, AllPass, enumerate_from, position_or_len, slice_get}
+use Rattle.std.specs.List.{All, AllPass, AllWithin, HoldsAt, position_or_len, scan, slice_get}
 use Rattle.records.specs.Instance.{Instance}
 use Rattle.records.specs.Meaning.{row_instance}
 use Rattle.records.specs.declared.row.Row.{Row}
@@ -76,61 +76,71 @@ pub ruleset row_gets = (item_nth, slice_get-map)
 -- what `length` and `readers` stand on: one row more, and the end
 pub ruleset row_steps = (readers_more, eq-eqb, ne_eqb, count_by_more_yes, count_by_more_no, length-map)
 
--- x stands at j and passes, after k others that do
-abbrev StandsAt : {X : Type 0} (p : X → Bool) (xs : List X) (k : ℕ) (x : X) (j : ℕ) → Type 0
-StandsAt p xs k x j = (slice_get xs j ≡ Some x) × (p x ≡ true) × (count_by p (take j xs) ≡ k)
+-- what is left of k before each element, where each that passes takes one, and whether it passes where none is left
+abbrev pub left_after : {X : Type 0} → (X → Bool) → ℕ → X → ℕ
+left_after p k x = if p x then k - 1 else k
 
-stands_later : {X : Type 0} (p : X → Bool) (y : X) (ys : List X) (k m : ℕ) (x : X) (j : ℕ) → StandsAt p ys m x j → cond (p y) 1 0 + m ≡ k → StandsAt p (y ∷ ys) k x (suc j)
-stands_later p y ys k m x j (there, passes, before) e = (there, passes, omega (arith, e, before, sum_by-cons (λ x. cond (p x) 1 0) y (take j ys)))
+abbrev pub found_at : {X : Type 0} → (X → Bool) → ℕ → X → Bool
+found_at p k x = p x && eqb k 0
 
--- the k-th that passes, of a list with its places from n
-stands_enumerated : {X : Type 0} (p : X → Bool) (n : ℕ) (xs : List X) (k i : ℕ) (x : X) → slice_get (filter (λ (y : ℕ × X). p y.1) (enumerate_from n xs)) k ≡ Some (i, x) → (j : ℕ) × (i ≡ n + j) × StandsAt p xs k x j
-stands_enumerated p n [] k i x e = absurd (none-some (i, x) e)
-stands_enumerated {X} p n (y ∷ ys) k i x e = step (p y) k refl (λ k. stands_enumerated p (n + 1) ys k i x) e
-  where
-    rest : List (ℕ × X)
-    rest = filter (λ (z : ℕ × X). p z.1) (enumerate_from (n + 1) ys)
+length_scan : {X : Type 0} (p : X → Bool) (k : ℕ) (xs : List X) → length (scan (left_after p) (found_at p) k xs) ≡ length xs
+length_scan p k [] = refl
+length_scan p k (x ∷ xs) = omega (arith, length_scan p (left_after p k x) xs)
 
-    step : (t : Bool) (k : ℕ) → p y ≡ t → ((k : ℕ) → slice_get rest k ≡ Some (i, x) → (j : ℕ) × (i ≡ (n + 1) + j) × StandsAt p ys k x j) → slice_get (cond t ((n, y) ∷ rest) rest) k ≡ Some (i, x) → (j : ℕ) × (i ≡ n + j) × StandsAt p (y ∷ ys) k x j
-    step true zero is more e =
-        let same : (n, y) ≡ (i, x) = ap (λ (o : Option (ℕ × X)). unwrap_or o (n, y)) e in
-        let found : y ≡ x = ap (λ (z : ℕ × X). z.1) same in
-        (0, omega (arith, ap {B = ℕ} (λ (z : ℕ × X). z.0) same), (ap Some found, ap p (sym found) ∙ is, refl))
-    step true (suc k) is more e = let (j, at, h) = more k e in (suc j, omega arith, stands_later p y ys (suc k) k x j h (omega (arith, ap {B = ℕ} (λ (t : Bool). cond t 1 0) is)))
-    step false k is more e = let (j, at, h) = more k e in (suc j, omega arith, stands_later p y ys k k x j h (omega (arith, ap {B = ℕ} (λ (t : Bool). cond t 1 0) is)))
+left_less : (t : Bool) (k n : ℕ) → cond t (k - 1) k - n ≡ k - (cond t 1 0 + n)
+left_less true k n = omega arith
+left_less false k n = omega arith
 
-count_enumerated : {X : Type 0} (p : X → Bool) (n : ℕ) (xs : List X) → count_by (λ (y : ℕ × X). p y.1) (enumerate_from n xs) ≡ count_by p xs
-count_enumerated p n [] = refl
-count_enumerated {X} p n (x ∷ xs) =
-    omega (
-      arith,
-      sum_by-cons (λ (y : ℕ × X). cond (p y.1) 1 0) (n, x) (enumerate_from (n + 1) xs),
-      sum_by-cons (λ x. cond (p x) 1 0) x xs,
-      count_enumerated p (n + 1) xs,
-    )
+scan_at : {X : Type 0} (p : X → Bool) (k : ℕ) (xs : List X) (j : ℕ) (d : X) (e : Bool) → j < length xs → get_or (scan (left_after p) (found_at p) k xs) j e ≡ (p (get_or xs j d) && eqb (k - count_by p (take j xs)) 0)
+scan_at p k [] j d e h = absurd (omega arith)
+scan_at p k (x ∷ xs) zero d e h = ap (λ (n : ℕ). p x && eqb n 0) (omega arith)
+scan_at p k (x ∷ xs) (suc j) d e h =
+    scan_at p (left_after p k x) xs j d e (omega arith)
+    ∙ ap (λ (n : ℕ). p (get_or xs j d) && eqb n 0) (left_less (p x) k (count_by p (take j xs)) ∙ ap (λ n. k - n) (sym (sum_by-cons (λ x. cond (p x) 1 0) x (take j xs))))
 
-nth_none : {X : Type 0} (xs : List X) (k : ℕ) → slice_get xs k ≡ None → length xs ≤ k
-nth_none [] k e = omega arith
-nth_none (x ∷ xs) zero e = absurd (none-some x (sym e))
-nth_none (x ∷ xs) (suc k) e = omega (arith, nth_none xs k e)
+kth_step : {X : Type 0} (p : X → Bool) (xs : List X) (d : X) (k j : ℕ) (t : Bool) → p (get_or xs j d) ≡ t → k < count_by p (take j xs) + cond t 1 0 → (k < count_by p (take j xs) → (i : ℕ) × (i < j) × (p (get_or xs i d) ≡ true) × (count_by p (take i xs) ≡ k)) → (i : ℕ) × (i < suc j) × (p (get_or xs i d) ≡ true) × (count_by p (take i xs) ≡ k)
+kth_step p xs d k j true is more earlier_one =
+    elim (cases_lt k (count_by p (take j xs))) [
+      | inl less ↦ let (i, below, passes, before) = earlier_one less in (i, omega arith, passes, before)
+      | inr all ↦ (j, omega arith, is, omega arith)
+    ]
+kth_step p xs d k j false is more earlier_one = let (i, below, passes, before) = earlier_one (omega arith) in (i, omega arith, passes, before)
 
--- what the chain of the rows that write c finds at k
-pub writer_found : (c k : ℕ) (rows : List Row) (o : Option (ℕ × Bor Row)) → option_map (λ (x : ℕ × Bor Row). (x.0, x.1.now)) o ≡ slice_get (filter (λ (x : ℕ × Row). eqb x.1.written c) (enumerate_from 0 rows)) k → option_map (λ (x : ℕ × Bor Row). x.0) o ≡ writer c k (map row_instance rows)
-writer_found c k rows None e =
+-- where more than k of the first j pass, one of them passes after exactly k others
+kth_there : {X : Type 0} (p : X → Bool) (xs : List X) (d : X) (k j : ℕ) → j ≤ length xs → k < count_by p (take j xs) → (i : ℕ) × (i < j) × (p (get_or xs i d) ≡ true) × (count_by p (take i xs) ≡ k)
+kth_there p xs d k zero h more = absurd (omega arith)
+kth_there p xs d k (suc j) h more =
+    kth_step p xs d k j (p (get_or xs j d)) refl (omega (arith, more, sum_by_more (λ x. cond (p x) 1 0) xs j d (omega arith), ap (λ n. count_by p (take n xs)) (add-one j))) (kth_there p xs d k j (omega arith))
+
+-- so where none of the first j is found, at most k of them pass
+few_before : {X : Type 0} (p : X → Bool) (xs : List X) (d : X) (k j : ℕ) → j ≤ length xs → AllWithin (λ b. b ≡ false) (scan (left_after p) (found_at p) k xs) 0 j → count_by p (take j xs) ≤ k
+few_before p xs d k j h none =
+    elim (cases_lt k (count_by p (take j xs))) [
+      | inl more ↦ let (i, below, passes, before) = kth_there p xs d k j h more in absurd (true≢false (sym (scan_at p k xs i d true (omega arith) ∙ (ap (λ t. t && eqb (k - count_by p (take i xs)) 0) passes ∙ eq-eqb (k - count_by p (take i xs)) 0 (omega arith))) ∙ none i true (omega arith) below))
+      | inr few ↦ few
+    ]
+
+-- for each row, whether it writes c where at least k others did before
+abbrev founds : ℕ → ℕ → List Row → List Bool
+founds c k rows = scan (left_after (λ (r : Row). eqb r.written c)) (found_at (λ (r : Row). eqb r.written c)) k rows
+
+-- what the chain finds, where k of the rows that write c are passed over
+pub writer_scanned : (c k : ℕ) (rows : List Row) (o : Option ℕ) → MatchOption o (AllWithin (λ b. b ≡ false) (founds c k rows) 0 (length (founds c k rows))) (λ j. (j < length (founds c k rows)) × HoldsAt (λ b. b ≡ true) (founds c k rows) j × AllWithin (λ b. b ≡ false) (founds c k rows) 0 j) → o ≡ writer c k (map row_instance rows)
+writer_scanned c k rows None none =
     let q = λ (r : Row). eqb r.written c in
     let l = map row_instance rows in
     sym (writer_absent c k l (omega (
       arith,
-      nth_none (filter (λ (x : ℕ × Row). q x.1) (enumerate_from 0 rows)) k (sym e),
-      length-filter (λ (x : ℕ × Row). q x.1) (enumerate_from 0 rows),
-      count_enumerated q 0 rows,
+      few_before q rows blank k (length rows) (omega arith) (λ i d a b. none i d a (omega (arith, length_scan q k rows))),
       earlier_counted c (length l) rows,
       ap (count_by q) (take_all (length l) rows (omega (arith, length-map rows row_instance))),
+      ap (count_by q) (take_all (length rows) rows (omega arith)),
     )))
-writer_found c k rows (Some x) e =
-    let (j, at, h) = stands_enumerated (λ (r : Row). eqb r.written c) 0 rows k x.0 x.1.now (sym e) in
-    let writes = ap (λ (o : Option Instance). unwrap_or (option_map (λ (i : Instance). eqb i.written c) o) false) (slice_get-map row_instance rows j ∙ ap (option_map row_instance) h.0) ∙ h.1 in
-    ap Some (omega arith) ∙ sym (writer_from (map row_instance rows) c k j writes (earlier_counted c j rows ∙ h.2))
+writer_scanned c k rows (Some j) (within, here, none) =
+    let q = λ (r : Row). eqb r.written c in
+    let below : j < length rows = omega (arith, length_scan q k rows) in
+    let (writes, out) = and_parts (q (get_or rows j blank)) (eqb (k - count_by q (take j rows)) 0) (sym (scan_at q k rows j blank true below) ∙ here true) in
+    sym (writer_from (map row_instance rows) c k j (row_writes c rows j blank below ∙ writes) (omega (arith, earlier_counted c j rows, eqb-true (k - count_by q (take j rows)) 0 out, few_before q rows blank k j (omega arith) none)))
 
 -- the first misfit, by the first row
 misfit_first : (C : ℕ) (r : Row) (rs : List Row) → first_misfit C (r ∷ rs) ≡ cond (row_fits C r) (option_map suc (first_misfit C rs)) (Some 0)

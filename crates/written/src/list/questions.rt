@@ -33,20 +33,28 @@ impl Source for WrittenList<'_> {
     }
 
     fn writer(&self, cell: u16, count: u32) -> Option<u32> {
+        // `scan` and `position`, and no `filter` and `nth`: the compiler makes one loop of them, and not two.
         self.rows
             .iter()
-            .enumerate()
-            .filter(|(_, row)| row.written == cell)
-            .nth(count as usize)
-            .map(|(position, _)| position as u32)
+            .scan(count, |left, row| {
+                if row.written != cell {
+                    return Some(false);
+                }
+                let found = *left == 0;
+                *left = left.saturating_sub(1);
+                Some(found)
+            })
+            .position(|found| found)
+            .map(|position| position as u32)
     }
 
     fn earlier(&self, cell: u16, position: u32) -> u32 {
+        // A sum, and no `filter` and `count`: the compiler makes it without branches.
         self.rows
             .iter()
             .take(position as usize)
-            .filter(|row| row.written == cell)
-            .count() as u32
+            .map(|row| u32::from(row.written == cell))
+            .sum()
     }
 
     #[tactic(auto, using(crate::proofs::Rows::row_steps), unfolding(sources::specs::Questions::readers, sources::specs::Numbers::total))]
@@ -71,9 +79,10 @@ fn count_slots(row: &Row, cell: u16) -> u32
     ensures held { result ≡ slots_of cell (row_instance row.now) }
     ensures few { result ≤ 5 }
 {
+    // A sum, as in `earlier`.
     row.reads
         .iter()
         .take(usize::from(row.count))
-        .filter(|&&read| read == cell)
-        .count() as u32
+        .map(|&read| u32::from(read == cell))
+        .sum()
 }
