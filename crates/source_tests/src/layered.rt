@@ -97,6 +97,20 @@ fn a_shift_twice_over(rt: HostRuntime) -> Result<(), Fail> {
     Ok(())
 }
 
+/// A layer over a list that borrows its rows is copied, and each copy is used.
+fn check_copied(rt: &impl Abort, list: WrittenList) -> Result<(), Fail> {
+    let twice = Rounds::new(list, 2);
+    let both = After::new(twice, twice);
+    same(rt, &After::new(both, both), &Rounds::new(list, 8))
+}
+
+#[test]
+fn copied_layers(rt: HostRuntime) -> Result<(), Fail> {
+    let rows = [OWN, COPY, FIVE];
+    let list = WrittenList::from_rows(3, &rows)?;
+    check_copied(&rt, list)
+}
+
 #[test]
 fn few_and_many_rounds(rt: HostRuntime) -> Result<(), Fail> {
     let rows = [OWN, COPY, FIVE];

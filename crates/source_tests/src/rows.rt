@@ -179,6 +179,9 @@ fn judge_long(rt: &impl Abort, rows: &[Row]) -> Result<(), Fail> {
     list.load(7, &rows[0..MOST_ROWS])?;
     assert_eq!(rt; list.length(), 8192);
     assert_eq!(rt; list.writer(0, 8191), Some(8191));
+    // A record keeps its row whole, also past its reads.
+    let last = list.record_at(8191).map(|record| Row::from(record).reads);
+    assert_eq!(rt; last, Some([9; 5]));
     assert_eq!(rt;
         list.load(0, &rows[0..MOST_ROWS + 1]),
         Err(RowsFault::TooMany)
