@@ -1,4 +1,4 @@
-use Rattle.std.proofs.Common.{eqb, false, true, ◌≡◌, ◌∙◌, rules, tests}
+use Rattle.std.proofs.Common.{eqb, false, true, ◌≡◌, ◌∙◌, arith, rules, tests}
 use Rattle.std.proofs.lemmas.Iterator.{IsFirst-from_position, YieldsList-from_slice}
 use Rattle.std.proofs.lemmas.Iterator.Consumers.{YieldsList-at, YieldsList-from_scan}
 use Rattle.records.specs.declared.row.Row.{Row}
@@ -12,4 +12,4 @@ returns c =
     let shown : c.map.result ≡ c.position.result = search (rules, tests) in
     shown
     ∙ writer_scanned c.args.cell c.args.count rows c.position.result
-    (IsFirst-from_position _ _ _ (λ b. b ≡ true) (λ b. b ≡ false) c.position.ensures.ran (YieldsList-from_scan _ (left_after q) (found_at q) c.args.count (YieldsList-at c.scan.ensures.source (YieldsList-from_slice rows c.iter.ensures.rest)) c.scan.ensures.state c.scan.ensures.closure (λ b x r h d k. search (rules, tests))) (λ x h k. search (rules, tests)) (λ x h k. search (rules, tests)))
+    (IsFirst-from_position _ _ _ (λ b. b ≡ true) (λ b. b ≡ false) c.position.ensures.ran (YieldsList-from_scan _ (left_after q) (found_at q) c.args.count (YieldsList-at c.scan.ensures.source (YieldsList-from_slice rows c.iter.ensures.rest)) (omega (arith, c.scan.ensures.state)) c.scan.ensures.closure (λ b x r h d k. search (rules, tests))) (λ x h k. search (rules, tests)) (λ x h k. search (rules, tests)))
