@@ -202,11 +202,26 @@ fn what_holds_a_record_is_copied(rt: HostRuntime) -> Result<(), Fail> {
     Ok(())
 }
 
+/// Bytes that form no record, and the debug text of their refusal.
+static REFUSED: [(&[u8], &str); 5] = [
+    (&[0x80], "Err(HighBit { place: 0 })"),
+    (&[0x16], "Err(Gap { place: 0 })"),
+    (&[0x00], "Err(NoCell { place: 0 })"),
+    (&[0x02, 0x07], "Err(PastEnd { place: 0 })"),
+    (&[0x03, 0x10, 0x07, 0x00], "Err(Operator { place: 0 })"),
+];
+
+/// The bytes are refused with this debug text.
+fn refused(rt: &impl Abort, heap: Global, bytes: &[u8], text: &str) -> Result<(), Fail> {
+    let answer = TraceReader::new(bytes).next_record();
+    assert_eq!(rt; format!(in heap; "{answer:?}")?.as_str(), text);
+    Ok(())
+}
+
 #[test]
-fn a_refusal_as_debug_text(rt: HostRuntime) -> Result<(), Fail> {
-    // The read bits have a gap.
-    let answer = TraceReader::new(&[0x16]).next_record();
-    let text = format!(in rt.alloc(); "{answer:?}")?;
-    assert_eq!(rt; text.as_str(), "Err(Gap { place: 0 })");
+fn refusals_as_debug_text(rt: HostRuntime) -> Result<(), Fail> {
+    for (bytes, text) in &REFUSED {
+        refused(&rt, rt.alloc(), bytes, text)?;
+    }
     Ok(())
 }
